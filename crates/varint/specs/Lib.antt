@@ -1,0 +1,4 @@
+pub mod Width
+pub mod Groups
+pub mod Calls
+pub mod Steps
