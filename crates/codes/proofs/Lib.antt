@@ -1,0 +1,4 @@
+-- The lemmas of the crate.
+mod PatternLaws
+mod RowLaws
+mod EntryLaws
