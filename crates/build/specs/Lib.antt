@@ -1,0 +1,5 @@
+pub mod Checked
+pub mod Filled
+pub mod Built
+pub mod Laws
+pub mod Steps

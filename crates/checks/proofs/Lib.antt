@@ -1,0 +1,3 @@
+pub mod Searching
+pub mod Large
+pub mod Repeating

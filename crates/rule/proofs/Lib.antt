@@ -1,0 +1,16 @@
+pub mod Xor
+pub mod Each
+pub mod Sums
+pub mod Pairs
+pub mod Halving
+pub mod Classes
+pub mod Crossings
+pub mod Taking
+pub mod Bound
+pub mod Separation
+pub mod SmallClasses
+pub mod Rounds
+pub mod SameSums
+pub mod Order
+pub mod Columns
+pub mod Laws

@@ -1,0 +1,4 @@
+pub mod Choose
+pub mod Round
+pub mod Places
+pub mod Laws

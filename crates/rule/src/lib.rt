@@ -1,0 +1,1 @@
+// How displacements are chosen, as definitions and laws alone: see specs/ and proofs/.
