@@ -1,5 +1,5 @@
 -- The answers of the rounds and of the build. Assumes nothing.
-use mathlib.Core.Path.{_≡_, refl, sym, ap, _∙_}
+use mathlib.Core.Path.{_≡_, refl, ap, _∙_}
 use mathlib.Core.Bool.{true}
 use mathlib.Core.List.{List, _++_}
 use Prim.Native.Nat.{ℕ, _+_, _*_, _^_, _≤_}
@@ -18,8 +18,8 @@ use Rattle.rule.specs.Places.{shared-pairs}
 use Rattle.rounds.specs.Halves.{Answers, Ready, firsts, seconds, places-of, pairs-of}
 use Rattle.build.specs.declared.Member.{Member}
 use Rattle.build.specs.Checked.{countsChecked, codesChecked}
-use Rattle.build.specs.Built.{half, answer, pairsAnswer}
-use Rattle.build.specs.Steps.{AnswerLaw}
+use Rattle.build.specs.Built.{half, answer}
+use Rattle.build.specs.Steps.{pairsAnswer, AnswerLaw}
 
 -- ---- the answer of the rounds
 pub some-made : (o : Option ℕ) (P : Type 0) (n : ℕ) → Answers o P n → P → isSome o ≡ true

@@ -1,20 +1,20 @@
 -- What holds of the columns of halves, said of the members. Assumes nothing.
 use mathlib.Core.Path.{_≡_, refl, sym, ap, ap₂, subst, _∙_}
 use mathlib.Core.List.{List, [], _∷_, _++_, map}
-use Prim.Native.Nat.{ℕ, zero, suc, _+_, _*_, _^_, _<_, _≤_}
+use Prim.Native.Nat.{ℕ, zero, suc, _^_, _<_, _≤_}
 use native.Mathlib.Nat.{not-suc-le-zero}
 use native.Mathlib.Omega.{arith}
-use lib.ListN.{length, getD, drop}
+use lib.ListN.{length, drop}
 use Rattle.std.specs.Finite.{zipped}
 use Rattle.std.specs.Iters.{counting}
 use Rattle.std.specs.declared.option.Option.{Option}
 use Rattle.std.specs.declared.option.Option.the-variants.{None, Some}
 use Rattle.std.specs.declared.result.Result.{Result}
-use Rattle.std.specs.declared.result.Result.the-variants.{Ok, Err}
+use Rattle.std.specs.declared.result.Result.the-variants.{Ok}
 use Rattle.std.proofs.shelf.Lists.{length-map}
 use Rattle.fault.specs.declared.Fault.{Fault}
 use Rattle.lists.specs.Size.{andThen}
-use Rattle.rule.specs.Places.{Each, Fit, Distinct, first, second, place, shared-pairs}
+use Rattle.rule.specs.Places.{Each, Fit, first, second, place, shared-pairs}
 use Rattle.rule.proofs.Columns.{first-map, second-map, place-map, shared-pairs-map}
 use Rattle.rule.proofs.Each.{each-with}
 use Rattle.rule.proofs.Rounds.{places-fit}
@@ -26,9 +26,9 @@ use Rattle.checks.proofs.Repeating.{repeated-map}
 use Rattle.slots.specs.declared.Slot.{Slot}
 use Rattle.build.specs.declared.Member.{Member}
 use Rattle.build.specs.Checked.{halvesChecked, codesChecked, columnsChecked}
-use Rattle.build.specs.Built.{half, firstList, pairsAnswer, secondList, slotList}
+use Rattle.build.specs.Built.{half, firstList, secondList, slotList}
 use Rattle.build.specs.Filled.{refilled}
-use Rattle.build.specs.Steps.{column, MembersLaw}
+use Rattle.build.specs.Steps.{pairsAnswer, column, MembersLaw}
 
 map-over : {X Y Z : Type 0} (g : Y → Z) (h : X → Y) (k : X → Z) → ((x : X) → g (h x) ≡ k x) → (xs : List X) → map g (map h xs) ≡ map k xs
 map-over g h k e [] = refl

@@ -1,14 +1,14 @@
 -- The slots as they are emptied and filled. Assumes nothing.
 use mathlib.Core.Path.{_≡_, refl, sym, ap, _∙_}
 use mathlib.Core.List.{List, [], _∷_, _++_, map}
-use Prim.Native.Nat.{ℕ, _+_, _<_, _≤_}
-use lib.ListN.{length, getD, set, take, drop}
+use Prim.Native.Nat.{ℕ, _+_}
+use lib.ListN.{getD, set, drop}
 use Rattle.std.proofs.shelf.Edits.{map-over-more}
 use Rattle.std.proofs.shelf.Lists.{append-nil, drop-more, drop-all, take-all}
 use Rattle.slots.specs.declared.Slot.{Slot}
 use Rattle.build.specs.declared.Member.{Member}
-use Rattle.build.specs.Filled.{vacant, slotOf, emptied, filled}
-use Rattle.build.specs.Steps.{filledFrom, EmptyLaw, FillLaw}
+use Rattle.build.specs.Filled.{vacant, slotOf, filled}
+use Rattle.build.specs.Steps.{EmptyLaw, FillLaw}
 
 module _ {C V : Type 0} where
   pub empty-law : (old : List (Slot C V)) → EmptyLaw old

@@ -1,13 +1,13 @@
 -- The halves of the members as columns. Assumes nothing.
 use mathlib.Core.Path.{_≡_, refl, sym, ap, _∙_}
 use mathlib.Core.List.{List, [], _∷_, _++_, map}
-use Prim.Native.Nat.{ℕ, _+_, _<_, _≤_}
+use Prim.Native.Nat.{ℕ, _+_}
 use native.Mathlib.Omega.{arith}
 use lib.ListN.{length, getD, set, take, drop}
 use Rattle.std.proofs.shelf.Lists.{append-assoc, append-nil, drop-more, drop-all, take-all, set-at, map-more, length-map, length-take-le}
 use Rattle.build.specs.declared.Member.{Member}
 use Rattle.build.specs.Built.{half}
-use Rattle.build.specs.Steps.{column, columnTo, ColumnLaw}
+use Rattle.build.specs.Steps.{column, ColumnLaw}
 
 pub column-law : {C V : Type 0} (of : C → ℕ) (ms : List (Member C V)) → ColumnLaw of ms
 unfolding column

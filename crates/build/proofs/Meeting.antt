@@ -1,8 +1,8 @@
 -- A build is accepted exactly if what it asks for is met. Assumes nothing.
 use mathlib.Core.Path.{_≡_, refl, sym, ap, ap₂, subst, _∙_}
-use mathlib.Core.Bool.{Bool, true, false, cond, _||_}
-use mathlib.Core.List.{List, []}
-use Prim.Native.Nat.{ℕ, _*_, _^_, _≤_, _<_}
+use mathlib.Core.Bool.{Bool, true, false, _||_}
+use mathlib.Core.List.{List}
+use Prim.Native.Nat.{ℕ, _*_, _^_, _≤_}
 use native.Mathlib.Omega.{arith}
 use lib.Dec.{eqb, ltb}
 use lib.ListN.{length}
@@ -14,9 +14,9 @@ use Rattle.fault.specs.declared.Fault.{Fault}
 use Rattle.fault.specs.declared.Fault.the-variants.{HalfWidth, ShortList, NoMembers, TooManyMembers}
 use Rattle.fault.specs.declared.List.the-variants.{First, Second, Slots, Work}
 use Rattle.lists.specs.Size.{refuse, andThen, sizeOf, checkedSize, checkedSizeWithWork, workPerPlace}
-use Rattle.rule.specs.Places.{Fit, Distinct, shared-pairs}
+use Rattle.rule.specs.Places.{shared-pairs}
 use Rattle.rule.proofs.Laws.{bounded-eighth}
-use Rattle.checks.specs.Checks.{largeHalf, repeated}
+use Rattle.checks.specs.Checks.{largeHalf}
 use Rattle.checks.proofs.Large.{none-large-fit, fit-none-large}
 use Rattle.checks.proofs.Repeating.{none-repeated-distinct, distinct-none-repeated}
 use Rattle.build.specs.declared.Member.{Member}

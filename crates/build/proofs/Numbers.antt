@@ -1,5 +1,5 @@
 -- Which number a refusal has does not depend on the order of the members. Assumes nothing.
-use mathlib.Core.Path.{_≡_, refl, sym, ap, ap₂, subst, _∙_}
+use mathlib.Core.Path.{_≡_, refl, sym, ap, subst, _∙_}
 use mathlib.Core.Bool.{Bool, true, false, cond}
 use mathlib.Core.List.{List, [], _∷_}
 use Prim.Native.Nat.{ℕ, _+_, _^_}
@@ -24,7 +24,7 @@ use Rattle.checks.proofs.Large.{none-large-fit, fit-none-large}
 use Rattle.build.specs.declared.Member.{Member}
 use Rattle.build.specs.Checked.{countsChecked, halvesChecked, codesChecked}
 use Rattle.build.specs.Built.{half, answer}
-use Rattle.build.proofs.Meeting.{Counted, accepted-counted}
+use Rattle.build.proofs.Meeting.{accepted-counted}
 
 -- a fault found among the halves has the number 5
 HasNumber : Option Fault → Type 0

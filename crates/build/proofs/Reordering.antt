@@ -1,7 +1,7 @@
 -- Members in another order give the same index. Assumes nothing.
-use mathlib.Core.Path.{_≡_, refl, sym, ap, ap₂, subst, _∙_}
+use mathlib.Core.Path.{_≡_, sym, ap, ap₂, subst, _∙_}
 use mathlib.Core.List.{List, _++_, map}
-use Prim.Native.Nat.{ℕ, _^_, _*_, _≤_}
+use Prim.Native.Nat.{ℕ, _^_}
 use native.Mathlib.Omega.{arith}
 use lib.ListN.{length, drop}
 use Rattle.std.specs.Iters.{counting}
@@ -10,15 +10,15 @@ use Rattle.std.specs.declared.result.Result.{Result}
 use Rattle.std.specs.declared.result.Result.the-variants.{Ok, Err}
 use Rattle.std.proofs.shelf.Sorted.{length-shuffled, shuffled-sym}
 use Rattle.fault.specs.declared.Fault.{Fault}
-use Rattle.rule.specs.Places.{Apart, first, second, place, shared-pairs}
+use Rattle.rule.specs.Places.{Apart, first, second, place}
 use Rattle.rule.specs.Laws.{SameIndex}
 use Rattle.rule.proofs.Laws.{order-free, bounded-eighth}
 use Rattle.rule.proofs.Order.{fit-shuffled, distinct-shuffled}
 use Rattle.slots.specs.declared.Slot.{Slot}
 use Rattle.build.specs.declared.Member.{Member}
 use Rattle.build.specs.Filled.{emptied, filled, refilled}
-use Rattle.build.specs.Built.{half, ifOk, answer, firstList, secondList, slotList, Built}
-use Rattle.build.specs.Laws.{Meets, Lawful, SameAnswer, OrderFree}
+use Rattle.build.specs.Built.{half, answer, firstList, secondList, slotList, Built}
+use Rattle.build.specs.Laws.{Meets, SameAnswer, OrderFree}
 use Rattle.build.proofs.Meeting.{lawful, meets-accepted}
 use Rattle.build.proofs.Numbers.{refusals-same}
 use Rattle.build.proofs.Written.{written-shuffled}

@@ -42,10 +42,6 @@ module _ {C V : Type 0} (front back : C → ℕ) (r : ℕ) (ms : List (Member C 
       andThen (codesChecked (half front) (half back) n ms) (λ _.
       Ok (length ms, shared-pairs (half front) (half back) r ms)))
 
-  -- the shared pairs, or the refusal of a code, in an index of size n
-  unfoldable pub pairsAnswer : ℕ → Result ℕ Fault
-  pairsAnswer n = andThen (codesChecked (half front) (half back) n ms) (λ _. Ok (shared-pairs (half front) (half back) r ms))
-
   -- the outcome of a build over these lists and a work list of this length
   pub record Built (old-first old-second : List ℕ) (old-slots : List (Slot C V)) (work : ℕ)
       (a : Result (ℕ × ℕ) Fault) (new-first new-second : List ℕ) (new-slots : List (Slot C V)) : Type 0 where

@@ -1,17 +1,24 @@
 -- The steps of a build. Assumes nothing.
 use mathlib.Core.Path.{_≡_}
-use mathlib.Core.List.{List, [], _++_, map}
+use mathlib.Core.List.{List, _++_, map}
 use Prim.Native.Nat.{ℕ, _+_, _^_, _<_, _≤_}
 use lib.ListN.{length, getD, set, take, drop}
+use Rattle.std.specs.declared.result.Result.{Result}
 use Rattle.std.specs.declared.result.Result.the-variants.{Ok}
+use Rattle.fault.specs.declared.Fault.{Fault}
 use Rattle.lists.specs.Size.{andThen}
+use Rattle.rule.specs.Places.{shared-pairs}
 use Rattle.displace.specs.Columns.{Below, ColumnsFit}
 use Rattle.rounds.specs.Halves.{firsts, seconds, places-of, pairs-of}
 use Rattle.slots.specs.declared.Slot.{Slot}
 use Rattle.build.specs.declared.Member.{Member}
-use Rattle.build.specs.Checked.{columnsChecked, countsChecked}
-use Rattle.build.specs.Built.{answer, half, firstList, pairsAnswer, secondList, slotList}
+use Rattle.build.specs.Checked.{codesChecked, columnsChecked, countsChecked}
+use Rattle.build.specs.Built.{answer, half, firstList, secondList, slotList}
 use Rattle.build.specs.Filled.{vacant, slotOf, emptied, filled, refilled}
+
+-- the answer of a build whose counts are in order: the shared pairs, or the refusal of a code, in an index of size n
+unfoldable pub pairsAnswer : {C V : Type 0} (front back : C → ℕ) (r : ℕ) (ms : List (Member C V)) → ℕ → Result ℕ Fault
+pairsAnswer front back r ms n = andThen (codesChecked (half front) (half back) n ms) (λ _. Ok (shared-pairs (half front) (half back) r ms))
 
 -- the halves of the members, in their order
 unfoldable pub column : {C V : Type 0} → (C → ℕ) → List (Member C V) → List ℕ

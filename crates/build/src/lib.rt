@@ -1,6 +1,6 @@
 // The build: an index made from its members.
 ghost use mathlib.Core.Path.{_≡_};
-ghost use Prim.Native.Nat.{_*_, _^_, _≤_};
+ghost use Prim.Native.Nat.{_*_, _≤_};
 ghost use lib.ListN.{length, replicate};
 ghost use Rattle.std.specs.Vec.{made};
 ghost use Rattle.lists.specs.Size.{Accepted, workPerPlace};
@@ -20,7 +20,7 @@ use lists::checked_size_with_work;
 use parts::build_parts;
 use slots::Slot;
 
-// A code and the entry that it leads to.
+// A member of an index: a code, and the entry that it leads to.
 #[derive(Clone, Copy, Debug)]
 pub struct Member<C, V> {
     pub code: C,
@@ -74,9 +74,9 @@ fn build_all<C: Code, V: Copy>(
 }
 
 // Builds an index of half width r from its members, and answers their number and the shared pairs: the pairs of members
-// with one first place. It sets the first 2^r of both lists and of the slots, and lets the rest be: a slot without a member
-// is marked empty, and keeps its code and entry. The work list is all zeros after every call; a refused call changes
-// nothing else.
+// with one first place. It sets the first 2^r of both lists and of the slots, and lets the rest be. Each member stands in
+// the slot at its place; the other slots are marked empty, and keep code and entry. Refusals come in the order of their
+// numbers. The work list is all zeros after every call; a refused call changes nothing else.
 pub fn build<C: Code, V: Copy>(
     r: u32,
     members: &[Member<C, V>],

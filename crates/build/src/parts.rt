@@ -1,9 +1,10 @@
 // A build of counted members, on parts of the work list.
 ghost use mathlib.Core.Path.{_≡_};
-ghost use Prim.Native.Nat.{_+_, _*_, _^_, _<_, _≤_};
+ghost use Prim.Native.Nat.{_+_, _*_, _^_, _≤_};
 ghost use lib.ListN.{length};
 ghost use Rattle.lists.specs.Size.{workPerPlace};
-ghost use Rattle.build.specs.Built.{firstList, ifOk, pairsAnswer, secondList, slotList};
+ghost use Rattle.build.specs.Built.{firstList, ifOk, secondList, slotList};
+ghost use Rattle.build.specs.Steps.{pairsAnswer};
 use crate::Member;
 use crate::columns::check;
 use crate::columns::set_lists;

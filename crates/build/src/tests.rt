@@ -1,5 +1,4 @@
 // Small builds worked by hand.
-ghost use Prim.Native.Nat.{ℕ};
 use crate::Member;
 use crate::build;
 use codes::Code;
@@ -144,4 +143,42 @@ fn refused() -> Result<(), Fail> {
     )?;
     check_eq((first[0], second[31], work[255]), (6, 6, 0))?;
     check_eq(shown(slots[1]), (true, 8, 8, 5))
+}
+
+// The largest half width takes 8,192 codes, and not one more.
+#[test]
+fn largest(rt: LibcRuntime) -> Result<(), Fail> {
+    let heap = rt.alloc();
+    let mut members = Vec::new(heap);
+    for i in 0..8192u32 {
+        members.push(member(i / 100, i % 100, i))?;
+    }
+    let mut slots = Vec::new(heap);
+    for _ in 0..65_536 {
+        slots.push(slot(false))?;
+    }
+    let mut first = vec![in heap; 0; 65_536]?;
+    let mut second = vec![in heap; 0; 65_536]?;
+    let mut work = vec![in heap; 0; 524_288]?;
+    let built = build(
+        16,
+        members.as_slice(),
+        first.as_mut_slice(),
+        second.as_mut_slice(),
+        slots.as_mut_slice(),
+        work.as_mut_slice(),
+    );
+    check(built.is_ok())?;
+    members.push(member(0, 100, 0))?;
+    check_eq(
+        build(
+            16,
+            members.as_slice(),
+            first.as_mut_slice(),
+            second.as_mut_slice(),
+            slots.as_mut_slice(),
+            work.as_mut_slice(),
+        ),
+        Err(Fault::TooManyMembers { members: 8193 }),
+    )
 }

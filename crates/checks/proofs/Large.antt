@@ -1,15 +1,13 @@
 -- No half is too large exactly if all fit. Assumes nothing.
-use mathlib.Core.Path.{_≡_, refl, sym, ap, _∙_}
+use mathlib.Core.Path.{_≡_, refl, _∙_}
 use mathlib.Core.Bool.{Bool, true, false, cond}
 use mathlib.Core.List.{List, [], _∷_, map}
-use mathlib.Core.Logic.{⊎-elim}
-use Prim.Native.Nat.{ℕ, _+_, _^_, _<_, _≤_}
+use Prim.Native.Nat.{ℕ, _+_, _^_}
 use lib.Dec.{leb}
 use native.Mathlib.Omega.{arith}
 use Rattle.std.specs.declared.option.Option.{Option}
 use Rattle.std.specs.declared.option.Option.the-variants.{None, Some}
-use Rattle.std.proofs.shelf.Tests.{leb-false, lt-leb, cond-false, cases-bool, both-ways}
-use Rattle.fault.specs.declared.Fault.{Fault}
+use Rattle.std.proofs.shelf.Tests.{leb-false, lt-leb, cond-false}
 use Rattle.rule.specs.Places.{Each, Fit}
 use Rattle.checks.specs.Checks.{largeHalf}
 

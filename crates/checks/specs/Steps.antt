@@ -60,7 +60,7 @@ module _ (fronts backs : List ℕ) where
     pub own : 0 < row → bucketAt buckets (row - 1) ≡ bucketAt buckets i
     pub unlike : (k : ℕ) → row ≤ k → k < i → sameAt k i ≡ false
 
-  -- the search for a repeated position
+  -- the search for a repeated position: how it starts and ends, how a chain is walked, and how a position is entered
   pub record SearchLaw : Type 0 where
     pub start : repeatedFrom 0 ≡ repeatedIn fronts backs
     pub empty : (heads links : List ℕ) → heads ≡ replicate (length heads) 0 → Chained heads links 0

@@ -1,6 +1,7 @@
 // The checks of a build's members, on two columns of halves: halves that are too large, and codes that come twice.
 ghost use mathlib.Core.Path.{_≡_};
 ghost use lib.ListN.{length};
+ghost use Rattle.std.specs.declared.option.Option.the-variants.{None};
 ghost use Rattle.checks.specs.Checks.{largeIn, repeatedIn, Room};
 use fault::Fault;
 use fault::Half;
@@ -41,7 +42,8 @@ pub fn repeated(
     heads: &mut [u32],
     links: &mut [u32],
 ) -> Option<usize>
-    ensures { λ a. ⌜ (Room (length (now (fronts .entry))) (length (now (backs .entry))) (length (now (heads .entry))) (length (now (links .entry))) → a ≡ repeatedIn (now (fronts .entry)) (now (backs .entry))) ⌝ }
+    ensures found { λ a. ⌜ (Room (length (now (fronts .entry))) (length (now (backs .entry))) (length (now (heads .entry))) (length (now (links .entry))) → a ≡ repeatedIn (now (fronts .entry)) (now (backs .entry))) ⌝ }
+    ensures unfit { λ a. ⌜ ((Room (length (now (fronts .entry))) (length (now (backs .entry))) (length (now (heads .entry))) (length (now (links .entry))) → ⊥) → a ≡ None) ⌝ }
 {
     let n = fronts.len();
     if backs.len() != n || n > MOST_MEMBERS || heads.len() == 0 || links.len() < n {

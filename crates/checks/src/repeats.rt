@@ -6,7 +6,7 @@ ghost use Rattle.checks.specs.Checks.{repeatedIn};
 ghost use Rattle.checks.specs.Steps.{bucketOf, sameAt};
 use crate::laws;
 
-// The bucket of a code, below the number of buckets.
+// The bucket of a code, below the number of buckets. It spreads codes well where that number is a power of two.
 fn bucket(buckets: usize, front: u32, back: u32) -> usize
     requires { ⌜ 0 < buckets ⌝ }
     ensures value { λ v. ⌜ v ≡ bucketOf buckets front back ⌝ }

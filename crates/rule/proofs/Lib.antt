@@ -5,7 +5,6 @@ pub mod Pairs
 pub mod Halving
 pub mod Classes
 pub mod Crossings
-pub mod Taking
 pub mod Bound
 pub mod Separation
 pub mod SmallClasses

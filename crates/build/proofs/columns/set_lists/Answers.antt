@@ -1,5 +1,5 @@
 use lib.ListN.{length}
-use Rattle.build.proofs.Answered.{ready, MadeRounds, made-rounds, some-made}
+use Rattle.build.proofs.Answered.{ready, made-rounds, some-made}
 use Rattle.build.proofs.columns.set_lists.Needs as need
 
 pub unwrap-requires : need.unwrap-requires
