@@ -13,7 +13,12 @@ use fault::Fault;
 use rounds::rounds;
 
 // Refuses halves of size or more, and codes that come twice.
-pub fn check(size: usize, fronts: &[u32], backs: &[u32], work: &mut [u32]) -> Result<(), Fault>
+pub(crate) fn check(
+    size: usize,
+    fronts: &[u32],
+    backs: &[u32],
+    work: &mut [u32],
+) -> Result<(), Fault>
     requires equal { ⌜ length (now backs) ≡ length (now fronts) ⌝ }
     requires few { ⌜ length (now fronts) < 2 ^ 32 ⌝ }
     requires some { ⌜ 0 < size ⌝ }
@@ -33,7 +38,7 @@ pub fn check(size: usize, fronts: &[u32], backs: &[u32], work: &mut [u32]) -> Re
 }
 
 // Sets both lists, in their first 2^r, and the place of each member, and answers the shared pairs.
-pub fn set_lists(
+pub(crate) fn set_lists(
     r: u32,
     fronts: &[u32],
     backs: &[u32],

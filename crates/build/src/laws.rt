@@ -38,7 +38,7 @@ pub fn checks(size: usize, fronts: &[u32], backs: &[u32])
 {}
 
 // What the columns of halves give is what the members give.
-pub fn members<C: Code, V>(
+pub(crate) fn members<C: Code, V>(
     r: u32,
     size: usize,
     members: &[Member<C, V>],

@@ -12,7 +12,11 @@ use codes::Code;
 use slots::Slot;
 
 // Writes the halves of the members to two columns.
-pub fn write_halves<C: Code, V>(members: &[Member<C, V>], fronts: &mut [u32], backs: &mut [u32])
+pub(crate) fn write_halves<C: Code, V>(
+    members: &[Member<C, V>],
+    fronts: &mut [u32],
+    backs: &mut [u32],
+)
     requires fronts { ⌜ length (now fronts) ≡ length (now members) ⌝ }
     requires backs { ⌜ length (now backs) ≡ length (now members) ⌝ }
     ensures fronts { λ _. ⌜ now (fronts .exit) ≡ column (C·Code .frontOf) (now (members .entry)) ⌝ }
@@ -60,7 +64,7 @@ fn fill<C: Copy, V: Copy>(members: &[Member<C, V>], places: &[u32], slots: &mut 
 }
 
 // Marks the first slots empty, as many as the index has places, and writes the members to theirs.
-pub fn set_slots<C: Copy, V: Copy>(
+pub(crate) fn set_slots<C: Copy, V: Copy>(
     size: usize,
     members: &[Member<C, V>],
     places: &[u32],

@@ -55,7 +55,7 @@ fn build_columns<C: Code, V: Copy>(
 }
 
 // The same on a work list, of which the first parts become the columns.
-pub fn build_parts<C: Code, V: Copy>(
+pub(crate) fn build_parts<C: Code, V: Copy>(
     r: u32,
     size: usize,
     members: &[Member<C, V>],

@@ -49,7 +49,7 @@ impl<'a> Words<'a> {
 }
 
 // The offset of the first such byte from `at` on, or the length.
-pub fn end(bytes: &[u8], at: usize, byte: u8) -> usize
+pub(crate) fn end(bytes: &[u8], at: usize, byte: u8) -> usize
     requires { ⌜ at ≤ length (now bytes) ⌝ }
     ensures from { λ e. ⌜ at ≤ e ⌝ }
     ensures within { λ e. ⌜ e ≤ length (now (bytes .entry)) ⌝ }

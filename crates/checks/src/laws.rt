@@ -10,7 +10,7 @@ pub fn large(n: usize, fronts: &[u32], backs: &[u32])
 {}
 
 // How a repeated code is found.
-pub fn search(fronts: &[u32], backs: &[u32])
+pub(crate) fn search(fronts: &[u32], backs: &[u32])
     requires { ⌜ length (now backs) ≡ length (now fronts) ⌝ }
     ensures { λ _. ⌜ SearchLaw (now (fronts .entry)) (now (backs .entry)) ⌝ }
 {}

@@ -25,7 +25,12 @@ fn same(fronts: &[u32], backs: &[u32], j: usize, i: usize) -> bool
 
 // The lowest position whose code came before. Each position is compared with the earlier ones of its bucket alone,
 // which are chained: heads have one more than the last position of each bucket, links one more than the position before.
-pub fn search(fronts: &[u32], backs: &[u32], heads: &mut [u32], links: &mut [u32]) -> Option<usize>
+pub(crate) fn search(
+    fronts: &[u32],
+    backs: &[u32],
+    heads: &mut [u32],
+    links: &mut [u32],
+) -> Option<usize>
     requires equal { ⌜ length (now backs) ≡ length (now fronts) ⌝ }
     requires few { ⌜ length (now fronts) < 2 ^ 32 ⌝ }
     requires heads { ⌜ 0 < length (now heads) ⌝ }

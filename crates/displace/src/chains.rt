@@ -6,7 +6,7 @@ ghost use Rattle.displace.specs.Columns.{Below};
 ghost use Rattle.displace.specs.Rows.{Falls, Gathers, Headed, Linked};
 
 // Links the rows: heads have the last row of each class, links the row before of the same class.
-pub fn chain(class: &[u32], heads: &mut [u32], links: &mut [u32])
+pub(crate) fn chain(class: &[u32], heads: &mut [u32], links: &mut [u32])
     requires empty { ⌜ now heads ≡ replicate (length (now heads)) 0 ⌝ }
     requires within { ⌜ Below (length (now heads)) (now class) ⌝ }
     requires long { ⌜ length (now links) ≡ length (now class) ⌝ }
@@ -22,7 +22,7 @@ pub fn chain(class: &[u32], heads: &mut [u32], links: &mut [u32])
 }
 
 // Copies the moved numbers of one class to the end of group, in the order of the rows, and tells where they begin.
-pub fn gather(last: u32, moved: &[u32], links: &[u32], group: &mut [u32]) -> usize
+pub(crate) fn gather(last: u32, moved: &[u32], links: &[u32], group: &mut [u32]) -> usize
     requires falls { ⌜ Falls (now links) ⌝ }
     requires within { ⌜ last ≤ length (now links) ⌝ }
     requires long { ⌜ length (now moved) ≡ length (now links) ⌝ ∗ ⌜ length (now group) ≡ length (now links) ⌝ }

@@ -99,7 +99,7 @@ fn prepare(
 }
 
 // Sets the displacement of every class: first of those of two members or more, then of those of one.
-pub fn take_classes(
+pub(crate) fn take_classes(
     r: u32,
     class: &[u32],
     moved: &[u32],

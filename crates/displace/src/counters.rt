@@ -6,7 +6,7 @@ ghost use lib.ListN.{length};
 ghost use Rattle.displace.specs.Counts.{Counts, Room, shown};
 
 // 2^w: how many counters the lowest w bits have, and the index of the first of them.
-pub fn power(w: u32) -> usize
+pub(crate) fn power(w: u32) -> usize
     requires { ⌜ w ≤ 16 ⌝ }
     ensures value { λ a. ⌜ a ≡ 2 ^ w ⌝ }
     ensures within { λ a. ⌜ (0 < a) × (a ≤ 65536) ⌝ }
@@ -25,7 +25,7 @@ fn index(w: u32, x: u32) -> usize
 }
 
 // The pairs of a member of the class, displaced by d, and a result so far that agree in w bits.
-pub fn pairs(w: u32, d: u32, class: &[u32], counters: &[u32]) -> u64
+pub(crate) fn pairs(w: u32, d: u32, class: &[u32], counters: &[u32]) -> u64
     requires width { ⌜ w ≤ 16 ⌝ }
     requires long { ⌜ 2 * 2 ^ w ≤ length (now counters) ⌝ }
     requires few { ⌜ length (now class) < 2 ^ 32 ⌝ }
@@ -39,7 +39,7 @@ pub fn pairs(w: u32, d: u32, class: &[u32], counters: &[u32]) -> u64
 }
 
 // Counts one more result.
-pub fn enter(r: u32, y: u32, counters: &mut [u32])
+pub(crate) fn enter(r: u32, y: u32, counters: &mut [u32])
     requires width { ⌜ r ≤ 16 ⌝ }
     requires room { ⌜ Room r 1 (now counters) ⌝ }
     ensures { λ _. ⌜ ((ys : List ℕ) → Counts r ys (now (counters .entry)) → Counts r (y ∷ ys) (now (counters .exit))) ⌝ }

@@ -6,7 +6,7 @@ ghost use Rattle.displace.specs.Columns.{Below};
 ghost use Rattle.rounds.specs.Halves.{moved-by, shared-rows};
 
 // Turns the class of each row into its result: its moved number, displaced by what its class has.
-pub fn move_all(moved: &[u32], displacements: &[u16], classes: &mut [u32])
+pub(crate) fn move_all(moved: &[u32], displacements: &[u16], classes: &mut [u32])
     requires long { ⌜ length (now moved) ≡ length (now classes) ⌝ }
     requires within { ⌜ Below (length (now displacements)) (now classes) ⌝ }
     ensures { λ _. ⌜ now (classes .exit) ≡ moved-by (now (displacements .entry)) (now (classes .entry)) (now (moved .entry)) ⌝ }
@@ -18,7 +18,7 @@ pub fn move_all(moved: &[u32], displacements: &[u16], classes: &mut [u32])
 }
 
 // The pairs of rows that hold the same number.
-pub fn count_shared(rows: &[u32], counters: &mut [u32]) -> u64
+pub(crate) fn count_shared(rows: &[u32], counters: &mut [u32]) -> u64
     requires few { ⌜ length (now rows) ≤ 65536 ⌝ }
     requires within { ⌜ Below (length (now counters)) (now rows) ⌝ }
     ensures { λ a. ⌜ a ≡ shared-rows (now (rows .entry)) ⌝ }

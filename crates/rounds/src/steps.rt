@@ -25,7 +25,7 @@ pub fn first_round(
 }
 
 // The first place of each member.
-pub fn place_first(r: u32, fronts: &[u32], backs: &[u32], first: &[u16], places: &mut [u32])
+pub(crate) fn place_first(r: u32, fronts: &[u32], backs: &[u32], first: &[u16], places: &mut [u32])
     requires fit { ⌜ ColumnsFit r (now fronts) (now backs) ⌝ }
     requires first { ⌜ take (2 ^ r) (now first) ≡ firsts r (now fronts) (now backs) ⌝ }
     requires long { ⌜ length (now places) ≡ length (now fronts) ⌝ }
@@ -37,7 +37,7 @@ pub fn place_first(r: u32, fronts: &[u32], backs: &[u32], first: &[u16], places:
 }
 
 // The second round, over the first places.
-pub fn second_round(
+pub(crate) fn second_round(
     r: u32,
     fronts: &[u32],
     backs: &[u32],
@@ -56,7 +56,7 @@ pub fn second_round(
 }
 
 // The place of each member, from the first places.
-pub fn place_last(r: u32, fronts: &[u32], backs: &[u32], second: &[u16], places: &mut [u32])
+pub(crate) fn place_last(r: u32, fronts: &[u32], backs: &[u32], second: &[u16], places: &mut [u32])
     requires fit { ⌜ ColumnsFit r (now fronts) (now backs) ⌝ }
     requires places { ⌜ now places ≡ first-places r (now fronts) (now backs) ⌝ }
     requires second { ⌜ take (2 ^ r) (now second) ≡ seconds r (now fronts) (now backs) ⌝ }
@@ -66,7 +66,7 @@ pub fn place_last(r: u32, fronts: &[u32], backs: &[u32], second: &[u16], places:
 }
 
 // The pairs of members with one first place.
-pub fn shared_pairs(
+pub(crate) fn shared_pairs(
     r: u32,
     fronts: &[u32],
     backs: &[u32],
