@@ -1,4 +1,5 @@
 // The refusals: every call of the library that does not carry out its task answers one of these.
+#![tactic(auto)]
 ghost use Rattle.std.specs.Prelude.{◌≡◌, Some, Decides};
 ghost use Rattle.fault.specs.Table.{number_of, layer_of, letter_of, list_part, displacements_part, half_part, made_part, part_of, spot_of};
 ghost use Rattle.fault.specs.Words.{short_list, large_half_of, large_displacement, not_made, before_spot_of, after_spot_of, in_words, as_refused};

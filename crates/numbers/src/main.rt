@@ -1,4 +1,5 @@
 // Shows the numbers that a file holds: reads its bytes from standard input and prints each number with its offset.
+#![tactic(auto)]
 ghost use Rattle.std.specs.Prelude.{◌≡◌, IfOk};
 ghost use Rattle.numbers.specs.Scan.{first_refusal};
 

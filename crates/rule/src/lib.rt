@@ -1,1 +1,2 @@
 // How displacements are chosen, as definitions and laws alone: see specs/ and proofs/.
+#![tactic(auto)]
