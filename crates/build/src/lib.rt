@@ -1,5 +1,6 @@
 // The build: an index made from its members.
 #![tactic(auto)]
+
 ghost use Rattle.std.specs.Prelude.{◌≡◌, ◌*◌, ◌≤◌, length, replicate, IfOk};
 ghost use Rattle.lists.specs.Size.{Accepted, work_per_place};
 ghost use Rattle.build.specs.Checked.{counts_checked, places_per_member};

@@ -1,5 +1,6 @@
 // Carries out a script of calls on one index, a command to a line, and prints one line for each that answers.
 #![tactic(auto)]
+
 use codes::{ChartEntry, FiledEntry, Pattern, Rods, Row, Shelf, Stroke};
 use index::Index;
 use slots::Slot;

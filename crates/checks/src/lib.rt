@@ -1,5 +1,6 @@
 // The checks of a build's members, on two columns of halves: halves that are too large, and codes that come twice.
 #![tactic(auto)]
+
 ghost use Rattle.std.specs.Prelude.{◌≡◌, length, None};
 ghost use Rattle.checks.specs.Checks.{large_in, repeated_in, Room};
 

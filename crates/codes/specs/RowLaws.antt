@@ -4,7 +4,7 @@ use Rattle.std.proofs.Common.{sym, ap, subst, ◌∙◌, arith}
 use Rattle.std.specs.Int.Signed.{mag}
 use Rattle.std.proofs.Math.Bridge.{le_prop}
 use Rattle.codes.specs.declared.rows.Row.{Row}
-use Rattle.codes.specs.Rows.{folded, in_range, raise, row_front, row_back, signed, unfolded, candidate, row_of}
+use Rattle.codes.specs.Rows.{folded, in_range, raise, row_front, row_back, unfolded, candidate, row_of}
 use Rattle.codes.specs.Makings.{MadeCode}
 use Rattle.std.proofs.lemmas.Bool.Decides.{Decides-eqb}
 

@@ -1,5 +1,6 @@
 // The kinds of code that an index holds, and their entries: what each means, and how each is made again.
 #![tactic(auto)]
+
 ghost use Rattle.std.specs.Prelude.{◌≡◌, ℕ, Option};
 ghost use Rattle.codes.specs.Makings.{MadeCode, MadeEntry};
 

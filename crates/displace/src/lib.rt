@@ -1,5 +1,6 @@
 // One round of the rule on two columns of numbers: every class gets its displacement.
 #![tactic(auto)]
+
 ghost use Rattle.std.specs.Prelude.{◌≡◌, ◌^◌, length};
 ghost use Rattle.displace.specs.Columns.{Exactly, Ready, displacements, written};
 

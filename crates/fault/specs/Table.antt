@@ -1,5 +1,6 @@
 -- What each refusal tells: its number, layer, part and spot. Assumes nothing.
-use Rattle.std.specs.Prelude.{ℕ}
+use Rattle.std.specs.Prelude.{ℕ, Bool, ◌==◌}
+use Rattle.std.specs.Ordering.{eq_of_both, on}
 use Rattle.fault.specs.declared.Displacements.{Displacements}
 use Rattle.fault.specs.declared.Displacements.TheVariants as displacements
 use Rattle.fault.specs.declared.Fault.{Fault}
@@ -122,3 +123,7 @@ letter_of layer.Lists = 76
 letter_of layer.Build = 66
 letter_of layer.Slots = 83
 letter_of layer.File = 70
+
+-- two refusals have one number, one part and one spot
+abbrev pub has_same_numbers : Fault → Fault → Bool
+has_same_numbers = eq_of_both (on number_of ◌==◌) (eq_of_both (on part_of ◌==◌) (on spot_of ◌==◌))

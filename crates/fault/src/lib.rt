@@ -1,7 +1,8 @@
 // The refusals: every call of the library that does not carry out its task answers one of these.
 #![tactic(auto)]
+
 ghost use Rattle.std.specs.Prelude.{◌≡◌, Some, Decides};
-ghost use Rattle.fault.specs.Table.{number_of, layer_of, letter_of, list_part, displacements_part, half_part, made_part, part_of, spot_of};
+ghost use Rattle.fault.specs.Table.{number_of, layer_of, letter_of, list_part, displacements_part, half_part, made_part, part_of, spot_of, has_same_numbers};
 ghost use Rattle.fault.specs.Words.{short_list, large_half_of, large_displacement, not_made, before_spot_of, after_spot_of, in_words, as_refused};
 ghost use Rattle.std.specs.Cmp.Rules.{comparing};
 ghost use Rattle.std.proofs.Common.{rules};
@@ -340,11 +341,14 @@ impl Layer {
 
 // Number, part and spot tell a refusal whole.
 impl PartialEq for Fault {
-    ghost equals = { λ x y r. Decides r (x ≡ y) };
+    ghost eq = { has_same_numbers };
 
     ghost laws = { Keys.partial_equiv_from_equiv (Prim.search (comparing, rules)) };
 
-    fn eq(&self, other: &Fault) -> bool {
+    fn eq(&self, other: &Fault) -> bool
+        ensures value { result ≡ has_same_numbers self.now other.now }
+        ensures same { Decides result (self.now ≡ other.now) }
+    {
         self.number() == other.number()
             && self.part() == other.part()
             && self.spot() == other.spot()

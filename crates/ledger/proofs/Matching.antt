@@ -1,7 +1,7 @@
 -- Slots mirror a ledger exactly if the lookups match it. Assumes nothing.
-use Rattle.std.proofs.Common.{◌≡◌, ℕ, ◌+◌, ◌^◌, ◌<◌, ◌≤◌, Bool, true, false, cond, ◌&&◌, leb, List, [], ◌∷◌, Some, None, Ok, Err, Option, Result, sym, refl, ap, ◌∙◌, subst, arith}
+use Rattle.std.proofs.Common.{◌≡◌, ℕ, ◌^◌, ◌<◌, Bool, true, false, cond, leb, List, [], ◌∷◌, Some, None, Ok, Err, Option, Result, sym, refl, ap, ◌∙◌, arith}
 use Rattle.std.specs.List.{slice_get}
-use Rattle.std.proofs.lemmas.Bool.{cond-true, cond-false, cond_both, and_parts, lt-leb}
+use Rattle.std.proofs.lemmas.Bool.{cond-false, cond_both, and_parts, lt-leb}
 use Rattle.fault.specs.declared.Fault.{Fault}
 use Rattle.fault.specs.declared.Fault.TheVariants as fault
 use Rattle.fault.specs.declared.Half.TheVariants.{Front, Back}
@@ -14,7 +14,7 @@ use Rattle.build.specs.declared.Member.{Member}
 use Rattle.build.specs.Built.{half}
 use Rattle.ledger.specs.declared.Call.TheVariants.{Lookup}
 use Rattle.ledger.specs.declared.Answer.{Answer}
-use Rattle.ledger.specs.declared.Answer.TheVariants.{Absent, Found, Refused}
+use Rattle.ledger.specs.declared.Answer.TheVariants.{Absent, Refused}
 use Rattle.ledger.specs.Run.{looked_up}
 use Rattle.ledger.specs.Ledger.{same_code, place_for, entry_in, if_fits, lookup_asked}
 use Rattle.ledger.specs.Law.{Sound, Matches, not_found}

@@ -1,5 +1,5 @@
 -- The ledger law of a run of calls. Assumes nothing.
-use Rattle.std.proofs.Common.{◌≡◌, ℕ, zero, suc, ◌+◌, ◌^◌, ◌<◌, ◌≤◌, Bool, true, false, cond, leb, List, [], ◌∷◌, ◌++◌, map, length, take, drop, Some, None, Ok, Err, Option, Result, sym, refl, ap, ◌∙◌, subst, arith}
+use Rattle.std.proofs.Common.{◌≡◌, ℕ, zero, suc, ◌+◌, ◌^◌, Bool, true, false, cond, leb, List, [], ◌∷◌, ◌++◌, length, take, drop, Some, None, Ok, Err, Option, Result, sym, refl, ap, ◌∙◌, subst, arith}
 use Rattle.std.specs.List.{slice_get}
 use Rattle.std.proofs.lemmas.List.{length-map, take_all}
 use Rattle.std.proofs.lemmas.Bool.{cond_both}
@@ -13,9 +13,9 @@ use Rattle.build.specs.Built.{half}
 use Rattle.ledger.specs.declared.Call.{Call}
 use Rattle.ledger.specs.declared.Call.TheVariants.{Lookup, Replace, Remove, Insert}
 use Rattle.ledger.specs.declared.Answer.{Answer}
-use Rattle.ledger.specs.declared.Answer.TheVariants.{Absent, Found, Replaced, Removed, Inserted, Refused}
+use Rattle.ledger.specs.declared.Answer.TheVariants.{Refused}
 use Rattle.ledger.specs.Run.{answer_to, answers_to, slots_after_call, slots_after_calls, Ran}
-use Rattle.ledger.specs.Ledger.{entry_in, with_entry, without, fed, accepted, asked, if_fits, remove_asked, ledger_after, inserts, removes}
+use Rattle.ledger.specs.Ledger.{entry_in, with_entry, fed, accepted, asked, if_fits, remove_asked, ledger_after, inserts, removes}
 use Rattle.ledger.specs.Law.{Sound, Matches, LedgerLaw, Kept, RunLaw}
 use Rattle.ledger.proofs.Entries.{without-length}
 use Rattle.ledger.proofs.Mirror.{Mirrors}

@@ -1,5 +1,5 @@
 -- The ledger law of a run on an index that is built first. Assumes nothing.
-use Rattle.std.proofs.Common.{◌≡◌, ℕ, Bool, true, false, ltb, List, ◌++◌, length, drop, Ok, Err, Result, sym, ◌∙◌, subst, arith}
+use Rattle.std.proofs.Common.{◌≡◌, ℕ, Bool, true, false, ltb, List, length, drop, Ok, Err, Result, sym, subst, arith}
 use Rattle.fault.specs.declared.Fault.{Fault}
 use Rattle.lists.specs.Size.{refuse, and_then}
 use Rattle.slots.specs.declared.Slot.{Slot}
@@ -8,7 +8,7 @@ use Rattle.build.specs.Built.{answer, first_list, second_list, slot_list}
 use Rattle.build.proofs.Meeting.{lawful}
 use Rattle.ledger.specs.declared.Call.{Call}
 use Rattle.ledger.specs.declared.Answer.{Answer}
-use Rattle.ledger.specs.Run.{answers_room, answers_after, slots_after_calls, Served}
+use Rattle.ledger.specs.Run.{Served}
 use Rattle.ledger.specs.Law.{Kept, ServeLaw}
 use Rattle.ledger.proofs.Running.{kept_by}
 use Rattle.ledger.proofs.Starting.{built_mirrors}

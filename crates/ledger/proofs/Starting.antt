@@ -1,17 +1,17 @@
 -- The slots of a build mirror its members. Assumes nothing.
-use Rattle.std.proofs.Common.{◌≡◌, ℕ, zero, suc, ◌+◌, ◌-◌, ◌^◌, ◌<◌, ◌≤◌, Bool, true, false, cond, ◌&&◌, ◌⊎◌, List, [], ◌∷◌, ◌++◌, map, length, get_or, take, drop, set, Some, None, count_by, Option, sym, refl, ap, ◌∙◌, subst, inl, inr, ⊎_elim, not-suc-le-zero, arith}
+use Rattle.std.proofs.Common.{◌≡◌, ℕ, zero, suc, ◌+◌, ◌^◌, ◌<◌, ◌≤◌, Bool, true, false, cond, ◌&&◌, ◌⊎◌, List, [], ◌∷◌, map, length, get_or, take, drop, set, Some, None, Option, sym, refl, ap, ◌∙◌, subst, inl, inr, ⊎_elim, not-suc-le-zero, arith}
 use lib.Bits.{bit_xor}
 use Rattle.std.specs.List.{slice_get, range_with_len, ContainsAt as Has}
 use Rattle.std.proofs.lemmas.List.FromFn.{length-map-range_with_len, get_or-map-range_with_len}
-use Rattle.std.proofs.lemmas.List.{get_or_append_left, length-append, length-drop, length-map, length-take-le, length-set, take_at}
+use Rattle.std.proofs.lemmas.List.{get_or_append_left, length-append, length-map, length-take-le, take_at}
 use Rattle.std.proofs.lemmas.Option.{slice_get-get_or}
 use Rattle.std.proofs.lemmas.List.Sums.{sum_by-cons}
 use Rattle.std.proofs.lemmas.Bool.{cases_Bool, cond-true, cond-false}
-use Rattle.rule.specs.Places.{Each, Apart, Fit, Distinct, first, second, place, first_place}
+use Rattle.rule.specs.Places.{Each, Apart, Fit, first, second, place, first_place}
 use Rattle.rule.specs.Round.{result}
 use Rattle.rule.specs.Laws.{Bounded}
 use Rattle.rule.proofs.Each.{each_with}
-use Rattle.rule.proofs.Rounds.{first_lt, second_lt, first_place_lt, place_lt, places_fit}
+use Rattle.rule.proofs.Rounds.{first_lt, second_lt, first_place_lt, places_fit}
 use Rattle.slots.specs.declared.Slot.{Slot}
 use Rattle.build.specs.declared.Member.{Member}
 use Rattle.build.specs.Built.{half, first_list, second_list, slot_list}

@@ -1,16 +1,15 @@
 -- One call on slots that mirror a ledger: its answer is the one asked for, and the slots mirror the ledger that is fed the call. Assumes nothing.
-use Rattle.std.proofs.Common.{◌≡◌, ℕ, suc, ◌+◌, ◌^◌, ◌<◌, ◌≤◌, Bool, true, false, cond, not, ◌&&◌, ◌||◌, eqb, leb, ◌⊎◌, List, [], ◌∷◌, map, length, set, Some, None, Ok, Err, Option, Result, sym, refl, ap, ◌∙◌, subst, inl, inr, ⊎_elim, arith}
+use Rattle.std.proofs.Common.{◌≡◌, ℕ, suc, ◌+◌, ◌^◌, ◌<◌, ◌≤◌, Bool, true, false, cond, not, ◌&&◌, ◌||◌, eqb, List, [], ◌∷◌, map, length, set, Some, None, Ok, Err, Option, sym, refl, ap, ◌∙◌, ⊎_elim, arith}
 use Rattle.std.specs.List.{slice_get}
 use Rattle.std.proofs.lemmas.List.{length-map}
-use Rattle.std.proofs.lemmas.Bool.{cases_Bool, cases_lt, cond-true, cond-false, cond_both, and_parts, le-leb, lt-leb, leb-true, leb-false, not-true, not-false, eqb-true, eq-eqb, or_left, or_right}
-use Rattle.fault.specs.declared.Fault.{Fault}
+use Rattle.std.proofs.lemmas.Bool.{cases_Bool, cond-true, cond-false, cond_both, and_parts, le-leb, lt-leb, not-true, not-false, eqb-true, eq-eqb, or_left, or_right}
 use Rattle.fault.specs.declared.Fault.TheVariants as fault
 use Rattle.fault.specs.declared.Half.TheVariants.{Front, Back}
-use Rattle.lists.specs.Size.{refuse, and_then}
+use Rattle.lists.specs.Size.{and_then}
 use Rattle.rule.specs.Places.{Each, Apart, Fit, Distinct}
 use Rattle.rule.proofs.Each.{each_with}
 use Rattle.slots.specs.declared.Slot.{Slot}
-use Rattle.slots.specs.Calls.{holds_code, look_up_at, replace_at, remove_at, insert_at, slot_for, answer_of, slots_after, written, renewed, emptied, filled}
+use Rattle.slots.specs.Calls.{holds_code, look_up_at, replace_at, remove_at, insert_at, answer_of, slots_after, renewed, emptied, filled}
 use Rattle.build.specs.declared.Member.{Member}
 use Rattle.build.specs.Built.{half}
 use Rattle.ledger.specs.declared.Call.{Call}
@@ -19,8 +18,7 @@ use Rattle.ledger.specs.declared.Answer.{Answer}
 use Rattle.ledger.specs.declared.Answer.TheVariants.{Absent, Found, Replaced, Removed, Inserted, Refused}
 use Rattle.ledger.specs.Run.{answer_to, slots_after_call, looked_up, changed}
 use Rattle.ledger.specs.Ledger.{same_code, place_for, entry_in, with_entry, without, fed, accepted, taken, asked, if_fits, lookup_asked, replace_asked, remove_asked, insert_asked}
-use Rattle.ledger.specs.Law.{AtHome, Sound}
-use Rattle.ledger.proofs.Entries.{same_itself, same_halves, halves_same, same_flip, renewed-same, renewed_other, without-same, without_other, each-renewed, each-without, distinct-renewed, distinct_without, without-length, none-same}
+use Rattle.ledger.proofs.Entries.{same_itself, same_halves, halves_same, renewed-same, renewed_other, without-same, without_other, each-renewed, each-without, distinct-renewed, distinct_without, without-length, none-same}
 use Rattle.ledger.proofs.Placing.{place_fits, by_slot}
 use Rattle.ledger.proofs.Mirror.{hold, hold_other, Mirrors, write_keeps}
 

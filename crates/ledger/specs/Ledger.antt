@@ -1,6 +1,5 @@
 -- The ledger: a list of codes with their entries, kept beside an index from the calls alone. Assumes nothing.
-use Rattle.std.specs.Prelude.{ℕ, ◌+◌, ◌^◌, Bool, true, false, cond, not, ◌&&◌, ◌||◌, List, [], ◌∷◌, map, length, Some, None, Option, ◌==◌, nat_le}
-use Rattle.fault.specs.declared.Fault.{Fault}
+use Rattle.std.specs.Prelude.{ℕ, ◌+◌, ◌^◌, Bool, true, false, cond, ◌&&◌, ◌||◌, List, [], ◌∷◌, map, Some, None, Option, ◌==◌, nat_le}
 use Rattle.fault.specs.declared.Fault.TheVariants as fault
 use Rattle.fault.specs.declared.Half.TheVariants.{Front, Back}
 use Rattle.lists.specs.Place.{place_within}

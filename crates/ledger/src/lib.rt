@@ -1,5 +1,6 @@
 // Many calls on one index, each with its answer, and the law that holds over all of them.
 #![tactic(auto)]
+
 ghost use Rattle.std.specs.Prelude.{◌≡◌, length, replicate};
 ghost use Rattle.ledger.specs.Run.{Ran, Served};
 ghost use Rattle.ledger.specs.Law.{RunLaw, ServeLaw};

@@ -1,5 +1,5 @@
 -- The place of a code. Assumes nothing.
-use Rattle.std.specs.Prelude.{◌≡◌, ℕ, ◌^◌, ◌<◌, List, length, Ok, Err, Result, bit_xor, nat_le, slice_index}
+use Rattle.std.specs.Prelude.{◌≡◌, ℕ, ◌^◌, ◌<◌, List, length, Ok, Result, bit_xor, nat_le, slice_index}
 use Rattle.fault.specs.declared.Displacements.TheVariants.{First, Second}
 use Rattle.fault.specs.declared.Fault.{Fault}
 use Rattle.fault.specs.declared.Fault.TheVariants.{LargeHalf, LargeDisplacement}

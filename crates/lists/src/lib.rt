@@ -1,5 +1,6 @@
 // The lists of an index: its size, the lengths that it asks for, the place of a code, and the guard over the work list.
 #![tactic(auto)]
+
 ghost use Rattle.std.specs.Prelude.{◌≡◌, ◌*◌, ◌^◌, ◌<◌, ◌≤◌, length, replicate, IfOk, Ok, nat_le, nat_lt, slice_index};
 ghost use Rattle.fault.specs.declared.Fault.TheVariants.{ShortList, LargeHalf, LargeDisplacement};
 ghost use Rattle.lists.specs.Size.{refuse, size_of, checked_size_of, checked_size_with_work_of, work_per_place, Accepted};

@@ -1,5 +1,5 @@
 -- Reading number after number. Assumes nothing.
-use Rattle.std.specs.Prelude.{ℕ, zero, suc, cond, List, length, Some, None, Ok, Err, Option, Result, nat_lt}
+use Rattle.std.specs.Prelude.{ℕ, zero, suc, cond, List, length, Some, None, Ok, Err, Option, nat_lt}
 use Rattle.fault.specs.declared.Fault.{Fault}
 use Rattle.varint.specs.Calls.{read_at}
 

@@ -1,5 +1,6 @@
 // Shows the numbers that a file holds: reads its bytes from standard input and prints each number with its offset.
 #![tactic(auto)]
+
 ghost use Rattle.std.specs.Prelude.{◌≡◌, IfOk};
 ghost use Rattle.numbers.specs.Scan.{first_refusal};
 

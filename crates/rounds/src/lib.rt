@@ -1,5 +1,6 @@
 // Both rounds over two columns of halves: the two lists of displacements, the place of each member, and the shared pairs.
 #![tactic(auto)]
+
 ghost use Rattle.std.specs.Prelude.{◌≡◌, ◌+◌, ◌*◌, ◌^◌, ◌≤◌, true, length, take, is_some};
 ghost use Rattle.displace.specs.Columns.{ColumnsFit, written};
 ghost use Rattle.rounds.specs.Halves.{Answers, Ready, firsts, pairs_of, places_of, seconds};

@@ -1,5 +1,6 @@
 // The slots of an index: looking up, replacing, removing and inserting a code.
 #![tactic(auto)]
+
 ghost use Rattle.std.specs.Prelude.{◌≡◌, ◌<◌, length, IfOk, Some, Ok};
 ghost use Rattle.std.specs.List.{slice_get};
 ghost use Rattle.lists.specs.Size.{and_then};

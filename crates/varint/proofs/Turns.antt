@@ -1,13 +1,13 @@
 -- The turns of a reading, one for each group. Assumes nothing.
-use Rattle.std.proofs.Common.{◌≡◌, ℕ, zero, suc, ◌+◌, ◌-◌, ◌*◌, ◌%◌, ◌^◌, ◌<◌, ◌≤◌, Bool, true, false, List, [], ◌∷◌, length, get_or, drop, Ok, Err, sym, refl, ap, ◌∙◌, subst, ⊎_elim, mul_assoc, mul-le-mul_left, pow-suc, mul-add, arith}
+use Rattle.std.proofs.Common.{◌≡◌, ℕ, zero, suc, ◌+◌, ◌-◌, ◌*◌, ◌%◌, ◌^◌, ◌<◌, ◌≤◌, Bool, true, false, List, ◌∷◌, length, get_or, drop, Ok, Err, sym, refl, ap, ◌∙◌, ⊎_elim, mul_assoc, mul-le-mul_left, pow-suc, mul-add, arith}
 use native.Mathlib.Nat.{pow-le-pow_right}
 use Rattle.std.proofs.lemmas.List.{drop_more, drop_all}
 use Rattle.std.proofs.lemmas.Bool.{cases_lt}
-use Rattle.fault.specs.declared.Fault.TheVariants.{EndOfBytes, MalformedNumber}
+use Rattle.fault.specs.declared.Fault.TheVariants.{EndOfBytes}
 use Rattle.varint.specs.Width.{more_groups, top_group, numbers}
 use Rattle.varint.specs.Groups.{Reading, ended, malformed, number, before, lastly, reading}
 use Rattle.varint.specs.Calls.{told, read_at}
-use Rattle.varint.specs.Steps.{joined, Turn, turn, ahead, further, start, Within, Goes}
+use Rattle.varint.specs.Steps.{joined, Turn, ahead, further, start, Within, Goes}
 use Rattle.varint.proofs.Forms.{reading-end, reading-last, reading-more, reading_top, reading-high, lastly-number}
 
 pub begins : (bytes : List ℕ) (at : ℕ) → ahead (start bytes at) ≡ read_at bytes at

@@ -1,5 +1,6 @@
 // Numbers in groups of seven bits: their length, writing and reading.
 #![tactic(auto)]
+
 ghost use Rattle.std.specs.Prelude.{◌≡◌, ◌+◌, ◌≤◌, length, IfOk, Ok};
 ghost use Rattle.varint.specs.Groups.{groups};
 ghost use Rattle.varint.specs.Calls.{read_at, Stands, Back, put_at, write_answer, written, Fewest};

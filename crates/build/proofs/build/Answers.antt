@@ -11,12 +11,12 @@ returns g c =
     let second = c.args.second.now in
     let slots = c.args.slots.now in
     let work = length c.args.work.now in
-    let built = c.build-all.ensures.built in
+    let built = c.build_all.ensures.built in
     record {
-      zero = c.build-all.ensures.zero;
+      zero = c.build_all.ensures.zero;
       built = built;
-      law = lawful g.C.Code.front_of g.C.Code.back_of r ms (length first) (length second) (length slots) work c.build-all.result built.answers;
+      law = lawful g.C.Code.front_of g.C.Code.back_of r ms (length first) (length second) (length slots) work c.build_all.result built.answers;
       order =
           order_holds g.C.Code.front_of g.C.Code.back_of r ms first second slots work
-          c.build-all.result c.build-all.new.first c.build-all.new.second c.build-all.new.slots built;
+          c.build_all.result c.build_all.new.first c.build_all.new.second c.build_all.new.slots built;
     }

@@ -4,8 +4,8 @@ use Rattle.ledger.proofs.run.Goals as goal
 pub returns : goal.returns
 returns g c =
     record {
-      ran = c.run-calls.ensures;
+      ran = c.run_calls.ensures;
       law =
           run_keeps g.C.Code.front_of g.C.Code.back_of g.met.C.Code.same c.args.r c.args.first.now c.args.second.now c.args.calls.now c.args.slots.now c.args.answers.now
-          c.run-calls.result c.run-calls.new.slots c.run-calls.new.answers c.run-calls.ensures;
+          c.run_calls.result c.run_calls.new.slots c.run_calls.new.answers c.run_calls.ensures;
     }

@@ -9,7 +9,7 @@ returns g c =
       first = search rules;
       second = search rules;
       slots =
-          c.set-slots.ensures
-          ∙ ap (λ places. refilled c.args.size places c.args.members.now c.args.slots.now) c.set-lists-pairs.ensures.places
+          c.set_slots.ensures
+          ∙ ap (λ places. refilled c.args.size places c.args.members.now c.args.slots.now) c.set_lists-pairs.ensures.places
           ∙ c.members.ensures.slots_are;
     }

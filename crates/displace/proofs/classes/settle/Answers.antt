@@ -11,17 +11,17 @@ enter-requires c =
     record {
       width = c.requires.width;
       room =
-          class_room c.args.r c.choose-displacement-d.result c.args.class.now c.loop-m.m-index c.args.counters.now c.loop-m.counters
+          class_room c.args.r c.choose_displacement-d.result c.args.class.now c.loop-m.m-index c.args.counters.now c.loop-m.counters
           c.loop-m-test.true c.requires.room c.loop-m.invariant;
     }
 
 pub loop-m-preserved : goal.loop-m-preserved
 loop-m-preserved c =
-    class_more c.args.r c.choose-displacement-d.result c.args.class.now c.loop-m.m-index c.args.counters.now c.loop-m.counters c.enter.new.counters
+    class_more c.args.r c.choose_displacement-d.result c.args.class.now c.loop-m.m-index c.args.counters.now c.loop-m.counters c.enter.new.counters
     c.loop-m-test.true c.loop-m.invariant c.enter.ensures
 
 pub returns : goal.returns
 returns c =
     λ ys counts.
     let all : length c.args.class.now ≤ c.loop-m.m-index = omega arith in
-    (c.choose-displacement-d.ensures.chosen ys counts, rw take_all at (c.loop-m.invariant ys counts))
+    (c.choose_displacement-d.ensures.chosen ys counts, rw take_all at (c.loop-m.invariant ys counts))

@@ -2,7 +2,7 @@ use Rattle.std.proofs.Common.{◌≡◌, ℕ, ◌^◌, length, sym, refl, subst,
 use Rattle.displace.proofs.Linking.{linked_falls, headed_within, gathered}
 use Rattle.displace.proofs.Taking.{Taken, so_far, taken_none, taken-all, room_many, take_many, skip_many, room_lone, take_lone, skip_lone}
 use Rattle.displace.proofs.classes.take_classes.Goals as goal
-use Rattle.displace.proofs.classes.take_classes.Goals.{then-is-many, else-is-many, then-is-lone, else-is-lone}
+use Rattle.displace.proofs.classes.take_classes.Goals.{then-is_many, else-is_many, then-is_lone, else-is_lone}
 
 -- ---- the classes of two members or more
 pub loop-v-init : goal.loop-v-init
@@ -31,7 +31,7 @@ settle-requires c =
     c.prepare.ensures.headed c.prepare.ensures.linked c.gather-start.ensures.gathers in
     record {
       width = c.requires.width;
-      room = room_many c.args.r class moved c.loop-v.counters c.loop-v.out _ v 0 ms (sym c.if-is-many.ensures) (omega arith) c.loop-v.invariant.0;
+      room = room_many c.args.r class moved c.loop-v.counters c.loop-v.out _ v 0 ms (sym c.if-is_many.ensures) (omega arith) c.loop-v.invariant.0;
     }
 
 pub loop-v-preserved : goal.loop-v-preserved
@@ -43,14 +43,14 @@ loop-v-preserved c =
     let ms =
     gathered class moved c.prepare.new.heads c.prepare.new.links c.gather-start.new.group v c.gather-start.result (omega arith) (omega arith)
     c.prepare.ensures.headed c.prepare.ensures.linked c.gather-start.ensures.gathers in (
-      elim c.if-is-many.branch [
-        | then-is-many w ↦
+      elim c.if-is_many.branch [
+        | then-is_many w ↦
             rw (w.counters-is, w.out-is)
-            (take_many r class moved c.loop-v.counters c.loop-v.out _ v 0 ms w.settle.new.counters w.settle.result (sym w.if-is-many.ensures) (omega arith)
+            (take_many r class moved c.loop-v.counters c.loop-v.out _ v 0 ms w.settle.new.counters w.settle.result (sym w.if-is_many.ensures) (omega arith)
             w.settle.ensures c.loop-v.invariant.0)
-        | else-is-many w ↦
+        | else-is_many w ↦
             rw (w.counters-is, w.out-is)
-            (skip_many r class moved c.loop-v.counters c.loop-v.out _ v 0 ms (sym w.if-is-many.ensures) c.loop-v.invariant.0)
+            (skip_many r class moved c.loop-v.counters c.loop-v.out _ v 0 ms (sym w.if-is_many.ensures) c.loop-v.invariant.0)
       ],
       omega arith,
     )
@@ -73,8 +73,8 @@ gather-start-requires-in-loop-v-2 c =
       long = (omega arith, omega arith);
     }
 
-pub settle-requires-then-is-lone : goal.settle-requires-then-is-lone
-settle-requires-then-is-lone c =
+pub settle-requires-then-is_lone : goal.settle-requires-then-is_lone
+settle-requires-then-is_lone c =
     let class = c.args.class.now in
     let moved = c.args.moved.now in
     let v = c.loop-v-2.v in
@@ -83,7 +83,7 @@ settle-requires-then-is-lone c =
     c.prepare.ensures.headed c.prepare.ensures.linked c.gather-start-in-loop-v-2.ensures.gathers in
     record {
       width = c.requires.width;
-      room = room_lone c.args.r class moved c.loop-v-2.counters c.loop-v-2.out _ v (2 ^ c.args.r) ms (sym c.if-is-lone.ensures) (omega arith) c.loop-v-2.invariant.0;
+      room = room_lone c.args.r class moved c.loop-v-2.counters c.loop-v-2.out _ v (2 ^ c.args.r) ms (sym c.if-is_lone.ensures) (omega arith) c.loop-v-2.invariant.0;
     }
 
 pub loop-v-2-preserved : goal.loop-v-2-preserved
@@ -95,14 +95,14 @@ loop-v-2-preserved c =
     let ms =
     gathered class moved c.prepare.new.heads c.prepare.new.links c.gather-start-in-loop-v-2.new.group v c.gather-start-in-loop-v-2.result (omega arith) (omega arith)
     c.prepare.ensures.headed c.prepare.ensures.linked c.gather-start-in-loop-v-2.ensures.gathers in (
-      elim c.if-is-lone.branch [
-        | then-is-lone w ↦
+      elim c.if-is_lone.branch [
+        | then-is_lone w ↦
             rw (w.counters-is, w.out-is)
-            (take_lone r class moved c.loop-v-2.counters c.loop-v-2.out _ v (2 ^ r) ms w.settle-then-is-lone.new.counters w.settle-then-is-lone.result
-            (sym w.if-is-lone.ensures) (omega arith) w.settle-then-is-lone.ensures c.loop-v-2.invariant.0)
-        | else-is-lone w ↦
+            (take_lone r class moved c.loop-v-2.counters c.loop-v-2.out _ v (2 ^ r) ms w.settle-then-is_lone.new.counters w.settle-then-is_lone.result
+            (sym w.if-is_lone.ensures) (omega arith) w.settle-then-is_lone.ensures c.loop-v-2.invariant.0)
+        | else-is_lone w ↦
             rw (w.counters-is, w.out-is)
-            (skip_lone r class moved c.loop-v-2.counters c.loop-v-2.out _ v (2 ^ r) ms (sym w.if-is-lone.ensures) c.loop-v-2.invariant.0)
+            (skip_lone r class moved c.loop-v-2.counters c.loop-v-2.out _ v (2 ^ r) ms (sym w.if-is_lone.ensures) c.loop-v-2.invariant.0)
       ],
       omega arith,
     )

@@ -12,8 +12,8 @@ bounds-counters-index c = search (rules, entered_within)
 pub bounds-counters-index-in-loop-w : goal.bounds-counters-index-in-loop-w
 bounds-counters-index-in-loop-w c = search (rules, entered_within)
 
-pub overflow-add-counters : goal.overflow-add-counters
-overflow-add-counters c = search (rules, entered_room)
+pub overflow_add-counters : goal.overflow_add-counters
+overflow_add-counters c = search (rules, entered_room)
 
 pub loop-w-preserved : goal.loop-w-preserved
 loop-w-preserved c = search (rules, entered_more)

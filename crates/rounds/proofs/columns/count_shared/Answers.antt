@@ -5,8 +5,8 @@ use Rattle.rounds.proofs.columns.count_shared.Goals as goal
 pub loop-x-init : goal.loop-x-init
 loop-x-init c = counted_none c.args.rows.now c.fill.new.self (search rules)
 
-pub overflow-add-counters : goal.overflow-add-counters
-overflow-add-counters c =
+pub overflow_add-counters : goal.overflow_add-counters
+overflow_add-counters c =
     let p = get_or c.args.rows.now c.loop-x.x-index 0 in
     let h : p < length c.loop-x.counters = omega (arith, c.requires.within c.loop-x.x-index (omega arith)) in
     omega (arith, counter_small c.args.rows.now c.loop-x.counters c.loop-x.x-index p c.loop-x.pairs c.requires.few h c.loop-x.invariant)

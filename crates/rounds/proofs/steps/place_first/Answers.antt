@@ -4,10 +4,10 @@ use Rattle.rounds.specs.Halves.{moved_by}
 use Rattle.rounds.proofs.Carrying.{firsts-long, first_places_are, first_places-within}
 use Rattle.rounds.proofs.steps.place_first.Goals as goal
 
-pub move-all-requires : goal.move-all-requires
-move-all-requires c =
+pub move_all-requires : goal.move_all-requires
+move_all-requires c =
     let long = firsts-long c.args.r c.args.fronts.now c.args.backs.now c.args.first.now c.requires.first in
-    let same = c.copy-from-slice.ensures.after in
+    let same = c.copy_from_slice.ensures.after in
     record {
       long = omega arith;
       within = λ i h. omega (arith, ap (λ xs. get_or xs i 0) same, c.requires.fit.class_fits i (omega arith));
@@ -16,8 +16,8 @@ move-all-requires c =
 pub returns : goal.returns
 returns c =
     let here =
-    c.move-all.ensures
-    ∙ ap (λ xs. moved_by c.args.first.now xs c.args.backs.now) c.copy-from-slice.ensures.after
+    c.move_all.ensures
+    ∙ ap (λ xs. moved_by c.args.first.now xs c.args.backs.now) c.copy_from_slice.ensures.after
     ∙ first_places_are c.args.r c.args.fronts.now c.args.backs.now c.requires.fit.equal c.args.first.now c.requires.fit.class_fits c.requires.first in
     record {
       places = here;

@@ -3,8 +3,8 @@ use Rattle.rounds.specs.Halves.{moved_by}
 use Rattle.rounds.proofs.Carrying.{seconds-long, length-first_places, first_places-within, places_are}
 use Rattle.rounds.proofs.steps.place_last.Goals as goal
 
-pub move-all-requires : goal.move-all-requires
-move-all-requires c =
+pub move_all-requires : goal.move_all-requires
+move_all-requires c =
     let r = c.args.r in
     let fronts = c.args.fronts.now in
     let backs = c.args.backs.now in
@@ -18,6 +18,6 @@ move-all-requires c =
 
 pub returns : goal.returns
 returns c =
-    c.move-all.ensures
+    c.move_all.ensures
     ∙ ap (λ xs. moved_by c.args.second.now xs c.args.fronts.now) c.requires.places
     ∙ places_are c.args.r c.args.fronts.now c.args.backs.now c.requires.fit.equal c.args.second.now c.requires.fit.moved_fits c.requires.second
