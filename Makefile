@@ -11,20 +11,20 @@ SCRIPT = patterns 4\nmember 3.5 300\nmember 3.9 7\nbuild\nlist\npeek first 3\npe
 demo:
 	@command -v rt >/dev/null || { echo "the command rt is missing: install the Rattle kit named in README.md"; exit 1; }
 	@echo "Proving and building (some minutes the first time) .."
-	@rt check numbers calls > target.log 2>&1 || { cat target.log; rm -f target.log; exit 1; }
-	@grep '^rt:' target.log; rm -f target.log
+	@for program in calls numbers; do \
+	    (cd crates/$$program && rt run </dev/null >demo.log 2>&1 && rm demo.log) || { cat crates/$$program/demo.log; rm crates/$$program/demo.log; exit 1; }; \
+	done
 	@echo; echo "A script that builds a small catalogue:"
 	@printf '$(SCRIPT)' | sed 's/^/    /'
 	@echo; echo "What it answers (members and shared pairs; the list of places; displacements; slots; the work list;"
 	@echo "and a third code, which half width 4 does not take):"
-	@printf '$(SCRIPT)' | target/bin/calls | sed 's/^/    /'
-	@printf '$(CATALOGUE)' > target/catalogue
+	@printf '$(SCRIPT)' | crates/calls/out/calls | sed 's/^/    /'
 	@echo; echo "The file of this catalogue, byte by byte:"
-	@od -An -v -tx1 target/catalogue
+	@printf '$(CATALOGUE)' | od -An -v -tx1
 	@echo; echo "The numbers that it holds, each behind its offset:"
-	@target/bin/numbers < target/catalogue | sed 's/^/    /'
+	@printf '$(CATALOGUE)' | crates/numbers/out/numbers | sed 's/^/    /'
 	@echo; echo "The same file without its last byte, as a box would refuse it:"
-	@head -c 41 target/catalogue | target/bin/numbers 2>&1 | tail -n 3 | sed 's/^/    /'
+	@printf '$(CATALOGUE)' | head -c 41 | crates/numbers/out/numbers 2>&1 | tail -n 3 | sed 's/^/    /'
 
 test:
 	bash .ci/run

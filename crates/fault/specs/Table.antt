@@ -1,5 +1,5 @@
 -- What each refusal tells: its number, layer, part and spot. Assumes nothing.
-use Rattle.std.specs.Prelude.{ℕ, Bool, ◌==◌}
+use Rattle.std.specs.Prelude.{◌≡◌, ℕ, Bool, ◌==◌, Decides}
 use Rattle.std.specs.Ordering.{eq_of_both, on}
 use Rattle.fault.specs.declared.Displacements.{Displacements}
 use Rattle.fault.specs.declared.Displacements.TheVariants as displacements
@@ -127,3 +127,7 @@ letter_of layer.File = 70
 -- two refusals have one number, one part and one spot
 abbrev pub has_same_numbers : Fault → Fault → Bool
 has_same_numbers = eq_of_both (on number_of ◌==◌) (eq_of_both (on part_of ◌==◌) (on spot_of ◌==◌))
+
+-- number, part and spot tell a refusal whole: they are the same in no two
+abbrev pub NumbersTell : Type 0
+NumbersTell = (x y : Fault) → Decides (has_same_numbers x y) (x ≡ y)

@@ -2,7 +2,7 @@
 #![tactic(auto)]
 
 ghost use Rattle.std.specs.Prelude.{◌≡◌, Some, Decides};
-ghost use Rattle.fault.specs.Table.{number_of, layer_of, letter_of, list_part, displacements_part, half_part, made_part, part_of, spot_of, has_same_numbers};
+ghost use Rattle.fault.specs.Table.{number_of, layer_of, letter_of, list_part, displacements_part, half_part, made_part, part_of, spot_of, has_same_numbers, NumbersTell};
 ghost use Rattle.fault.specs.Words.{short_list, large_half_of, large_displacement, not_made, before_spot_of, after_spot_of, in_words, as_refused};
 ghost use Rattle.std.specs.Cmp.Rules.{comparing};
 ghost use Rattle.std.proofs.Common.{rules};
@@ -348,6 +348,7 @@ impl PartialEq for Fault {
     fn eq(&self, other: &Fault) -> bool
         ensures value { result ≡ has_same_numbers self.now other.now }
         ensures same { Decides result (self.now ≡ other.now) }
+        ensures tells { NumbersTell }
     {
         self.number() == other.number()
             && self.part() == other.part()

@@ -15,7 +15,7 @@ mod lent;
 
 pub use lent::Slots;
 
-// The room for one code at a place: only the mark says whether the slot is full, or empty and its code and entry mean nothing.
+// One slot: whether it is full, and the code and entry that it holds or last held. Only the mark says whether it is empty.
 #[derive(Clone, Copy, Debug)]
 pub struct Slot<C, V> {
     pub full: bool,
