@@ -1,5 +1,5 @@
 -- What holds of the columns of halves, said of the members. Assumes nothing.
-use Rattle.std.proofs.Common.{◌≡◌, ℕ, zero, suc, ◌^◌, ◌<◌, ◌≤◌, List, [], ◌∷◌, ◌++◌, map, length, drop, Some, None, Ok, Option, Result, sym, refl, ap, ◌∙◌, subst, ap₂, not-suc-le-zero, arith}
+use Rattle.std.proofs.Common.{◌≡◌, ℕ, zero, suc, ◌^◌, ◌<◌, ◌≤◌, List, [], ◌∷◌, ◌++◌, map, length, drop, Some, None, Ok, Err, Option, Result, sym, refl, ap, ◌∙◌, subst, ap₂, not-suc-le-zero, arith}
 use Rattle.std.specs.List.{zip, range_with_len}
 use Rattle.std.proofs.lemmas.List.{length-map}
 use Rattle.fault.specs.declared.Fault.{Fault}
@@ -17,8 +17,8 @@ use Rattle.slots.specs.declared.Slot.{Slot}
 use Rattle.build.specs.declared.Member.{Member}
 use Rattle.build.specs.Checked.{halves_checked, codes_checked, columns_checked}
 use Rattle.build.specs.Built.{half, first_list, second_list, slot_list}
-use Rattle.build.specs.Filled.{refilled}
-use Rattle.build.specs.Steps.{pairs_answer, column, MembersLaw}
+use Rattle.build.specs.Filled.{emptied, filled, refilled}
+use Rattle.build.specs.Steps.{pairs_answer, column}
 
 map_over : {X Y Z : Type 0} (g : Y → Z) (h : X → Y) (k : X → Z) → ((x : X) → g (h x) ≡ k x) → (xs : List X) → map g (map h xs) ≡ map k xs
 map_over g h k e [] = refl
@@ -32,8 +32,8 @@ below-map f n (x ∷ xs) h (suc i) l = below-map f n xs h.1 i (omega arith)
 
 -- an accepted check found nothing
 pub none_found : (large : Option Fault) (twice : Option ℕ) → halves_checked large twice ≡ Ok tt → (large ≡ None) × (twice ≡ None)
-none_found (Some fault) twice e = let z : ◌≡◌ {A = ℕ} 0 1 = cc in absurd (omega arith)
-none_found None (Some position) e = let z : ◌≡◌ {A = ℕ} 0 1 = cc in absurd (omega arith)
+none_found (Some fault) twice e = absurd cc
+none_found None (Some position) e = absurd cc
 none_found None None e = (refl, refl)
 
 module _ {C V : Type 0} (front back : C → ℕ) (r : ℕ) (ms : List (Member C V)) where
@@ -108,33 +108,43 @@ module _ {C V : Type 0} (front back : C → ℕ) (r : ℕ) (ms : List (Member C 
   answers_are n =
       ap₂ (λ (a : Result (Unit {0}) Fault) (pairs : ℕ). and_then a (λ _. Ok pairs)) (sym (checks_are n)) (sym pairs_are)
 
-  first_list_lem : (old new : List ℕ) → new ≡ firsts r (column front ms) (column back ms) ++ drop (2 ^ r) old → new ≡ first_list front back r ms old
+  first_list_lem : (old : List ℕ) → firsts r (column front ms) (column back ms) ++ drop (2 ^ r) old ≡ first_list front back r ms old
   unfolding first_list
-  first_list_lem old new e = e ∙ ap (λ (xs : List ℕ). xs ++ drop (2 ^ r) old) firsts_are
+  first_list_lem old = ap (λ (xs : List ℕ). xs ++ drop (2 ^ r) old) firsts_are
 
-  second_list_lem : (old new : List ℕ) → new ≡ seconds r (column front ms) (column back ms) ++ drop (2 ^ r) old → new ≡ second_list front back r ms old
+  second_list_lem : (old : List ℕ) → seconds r (column front ms) (column back ms) ++ drop (2 ^ r) old ≡ second_list front back r ms old
   unfolding second_list
-  second_list_lem old new e = e ∙ ap (λ (xs : List ℕ). xs ++ drop (2 ^ r) old) seconds_are
+  second_list_lem old = ap (λ (xs : List ℕ). xs ++ drop (2 ^ r) old) seconds_are
 
-  slot_list_lem : (slots : List (Slot C V)) → refilled (2 ^ r) (places_of r (column front ms) (column back ms)) ms slots ≡ slot_list front back r ms slots
-  unfolding slot_list
-  slot_list_lem slots = ap (λ places. refilled (2 ^ r) places ms slots) places_are
+  slot_list_lem : (slots : List (Slot C V)) → filled (places_of r (column front ms) (column back ms)) ms (emptied (2 ^ r) slots) ≡ slot_list front back r ms slots
+  unfolding slot_list refilled
+  slot_list_lem slots = ap (λ places. filled places ms (emptied (2 ^ r) slots)) places_are
 
-  members_law_columns : (slots : List (Slot C V)) → r ≤ 16 → length ms ≤ 2 ^ r → MembersLaw front back r (2 ^ r) ms (column front ms) (column back ms) slots
-  members_law_columns slots width few =
+-- what columns of halves that pass the checks give is what the members give, in an index of size n
+pub record Crossed {C V : Type 0} (front back : C → ℕ) (r n : ℕ) (ms : List (Member C V)) (fronts backs : List ℕ) : Type 0 where
+  pub fit : ColumnsFit r fronts backs
+  pub answer : Ok (pairs_of r fronts backs) ≡ pairs_answer front back r ms n
+  pub first_is : (old : List ℕ) → firsts r fronts backs ++ drop (2 ^ r) old ≡ first_list front back r ms old
+  pub second_is : (old : List ℕ) → seconds r fronts backs ++ drop (2 ^ r) old ≡ second_list front back r ms old
+  pub within : (k : ℕ) → n ≤ k → Below k (places_of r fronts backs)
+  pub slots_are : (slots : List (Slot C V)) → filled (places_of r fronts backs) ms (emptied n slots) ≡ slot_list front back r ms slots
+
+module _ {C V : Type 0} (front back : C → ℕ) (r n : ℕ) (ms : List (Member C V)) (fronts backs : List ℕ)
+    (size : n ≡ 2 ^ r) (f : fronts ≡ column front ms) (b : backs ≡ column back ms) where
+  answers : pairs_answer front back r ms n ≡ and_then (columns_checked n fronts backs) (λ _. Ok (pairs_of r fronts backs))
+  answers = rw (f, b) (answers_are front back r ms n)
+
+  pub refused : (fault : Fault) → Err fault ≡ columns_checked n fronts backs → Err fault ≡ pairs_answer front back r ms n
+  refused fault e = sym (answers ∙ ap (λ (a : Result (Unit {0}) Fault). and_then a (λ _. Ok (pairs_of r fronts backs))) (sym e))
+
+  pub crossed : r ≤ 16 → length ms ≤ n → Ok tt ≡ columns_checked n fronts backs → Crossed front back r n ms fronts backs
+  crossed width few e =
+      let checked : columns_checked (2 ^ r) (column front ms) (column back ms) ≡ Ok tt = rw (← size, ← f, ← b) (sym e) in
       record {
-        answers = answers_are (2 ^ r);
-        fit = λ checked. columns_fit checked width few;
-        first_is = first_list_lem;
-        second_is = second_list_lem;
-        within = places_within;
-        slots_are = slot_list_lem slots;
+        fit = rw (f, b) (columns_fit front back r ms checked width (omega arith));
+        answer = ap (λ (a : Result (Unit {0}) Fault). and_then a (λ _. Ok (pairs_of r fronts backs))) e ∙ sym answers;
+        first_is = λ old. rw (f, b) (first_list_lem front back r ms old);
+        second_is = λ old. rw (f, b) (second_list_lem front back r ms old);
+        within = λ k h. rw (f, b) (places_within front back r ms checked k (omega arith));
+        slots_are = λ slots. rw (f, b, size) (slot_list_lem front back r ms slots);
       }
-
-  pub members_law : (n : ℕ) (fronts backs : List ℕ) (slots : List (Slot C V)) → n ≡ 2 ^ r → r ≤ 16 → length ms ≤ n → fronts ≡ column front ms → backs ≡ column back ms
-      → MembersLaw front back r n ms fronts backs slots
-  members_law n fronts backs slots en width few ef eb =
-      subst (λ (k : ℕ). MembersLaw front back r k ms fronts backs slots) (sym en)
-      (subst (λ (xs : List ℕ). MembersLaw front back r (2 ^ r) ms xs backs slots) (sym ef)
-      (subst (λ (xs : List ℕ). MembersLaw front back r (2 ^ r) ms (column front ms) xs slots) (sym eb)
-      (members_law_columns slots width (omega arith))))

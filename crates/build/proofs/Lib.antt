@@ -1,3 +1,4 @@
+pub mod Checking
 pub mod Answered
 pub mod Halves
 pub mod Filling
@@ -6,3 +7,4 @@ pub mod Meeting
 pub mod Written
 pub mod Reordering
 pub mod Numbers
+pub mod Promised

@@ -18,18 +18,15 @@ use Rattle.build.proofs.Crossing.{none_found}
 
 -- ---- accepted answers
 refuse-accepted : {X : Type 0} (test : Bool) (fault : Fault) (rest : Result X Fault) (x : X) → refuse test fault rest ≡ Ok x → (test ≡ false) × (rest ≡ Ok x)
-refuse-accepted true fault rest x e = let z : ◌≡◌ {A = ℕ} 0 1 = cc in absurd (omega arith)
+refuse-accepted true fault rest x e = absurd cc
 refuse-accepted false fault rest x e = (refl, e)
 
 then_accepted : {X Y : Type 0} (a : Result X Fault) (next : X → Result Y Fault) (y : Y) → and_then a next ≡ Ok y → (x : X) × (a ≡ Ok x) × (next x ≡ Ok y)
 then_accepted (Ok x) next y e = (x, refl, e)
-then_accepted (Err fault) next y e = let z : ◌≡◌ {A = ℕ} 0 1 = cc in absurd (omega arith)
+then_accepted (Err fault) next y e = absurd cc
 
 accept_then : {X Y : Type 0} (a : Result X Fault) (next : X → Result Y Fault) (x : X) (b : Result Y Fault) → a ≡ Ok x → next x ≡ b → and_then a next ≡ b
 accept_then a next x b e h = ap (λ a. and_then a next) e ∙ h
-
-same_ok : (x y : ℕ) → ◌≡◌ {A = Result ℕ Fault} (Ok x) (Ok y) → x ≡ y
-same_ok x y e = cc
 
 -- ---- the counts
 pub record Counted (r members first second slots work n : ℕ) : Type 0 where
@@ -57,10 +54,10 @@ module _ (r members first second slots work : ℕ) where
       let three = refuse-accepted (ltb slots size.0) (ShortList Slots slots) (Ok size.0) lists.0 two.1 in
       let width = refuse-accepted (ltb r 4 || ltb 16 r) (HalfWidth r) (Ok (2 ^ r)) size.0 size.1 in
       let bounds = or_parts (ltb r 4) (ltb 16 r) width.0 in
-      let n1 = same_ok whole.0 n many.1 in
-      let n2 = same_ok lists.0 whole.0 fourth.1 in
-      let n3 = same_ok size.0 lists.0 three.1 in
-      let n4 = same_ok (2 ^ r) size.0 width.1 in
+      let n1 : whole.0 ≡ n = cc many.1 in
+      let n2 : lists.0 ≡ whole.0 = cc fourth.1 in
+      let n3 : size.0 ≡ lists.0 = cc three.1 in
+      let n4 : 2 ^ r ≡ size.0 = cc width.1 in
       record {
         size = omega arith;
         low = ltb-false r 4 bounds.0;
@@ -129,4 +126,4 @@ module _ {C V : Type 0} (front back : C → ℕ) (r : ℕ) (ms : List (Member C 
   lawful (Ok x) e =
       let meets = accepted_meets x (sym e) in
       (meets, bounded_eighth (half front) (half back) r ms meets.fit meets.distinct meets.high meets.few)
-  lawful (Err fault) e = λ meets. let found = meets_accepted meets in let z : ◌≡◌ {A = ℕ} 0 1 = cc in omega arith
+  lawful (Err fault) e = λ meets. let found = meets_accepted meets in cc

@@ -1,5 +1,5 @@
 -- Which number a refusal has does not depend on the order of the members. Assumes nothing.
-use Rattle.std.proofs.Common.{◌≡◌, ℕ, ◌+◌, ◌^◌, Bool, true, false, cond, leb, List, [], ◌∷◌, length, Some, None, Ok, Err, Option, Result, sym, refl, ap, ◌∙◌, subst, arith}
+use Rattle.std.proofs.Common.{◌≡◌, ℕ, ◌+◌, ◌^◌, Bool, true, false, cond, leb, List, [], ◌∷◌, length, Some, None, Ok, Err, Option, Result, sym, refl, ap, ◌∙◌, subst}
 use Rattle.std.specs.List.Sorted.{IsPermutation}
 use Rattle.std.proofs.lemmas.List.Sorted.{length_permutation, IsPermutation-sym}
 use Rattle.fault.specs.Table.{number_of}
@@ -39,14 +39,14 @@ same_number (Some p) (Some q) twice twice' x y f g h h' to from e e' =
     let ef : f ≡ p = cc in
     let eg : g ≡ q = cc in
     ap number_of ef ∙ h ∙ sym (ap number_of eg ∙ h')
-same_number (Some p) None twice twice' x y f g h h' to from e e' = let n = from refl in let z : ◌≡◌ {A = ℕ} 0 1 = cc in absurd (omega arith)
-same_number None (Some q) twice twice' x y f g h h' to from e e' = let n = to refl in let z : ◌≡◌ {A = ℕ} 0 1 = cc in absurd (omega arith)
+same_number (Some p) None twice twice' x y f g h h' to from e e' = let n = from refl in absurd cc
+same_number None (Some q) twice twice' x y f g h h' to from e e' = let n = to refl in absurd cc
 same_number None None (Some i) (Some j) x y f g h h' to from e e' =
     let ef : f ≡ RepeatedCode i = cc in
     let eg : g ≡ RepeatedCode j = cc in
     ap number_of ef ∙ sym (ap number_of eg)
-same_number None None None twice' x y f g h h' to from e e' = let z : ◌≡◌ {A = ℕ} 0 1 = cc in absurd (omega arith)
-same_number None None (Some i) None x y f g h h' to from e e' = let z : ◌≡◌ {A = ℕ} 0 1 = cc in absurd (omega arith)
+same_number None None None twice' x y f g h h' to from e e' = absurd cc
+same_number None None (Some i) None x y f g h h' to from e e' = absurd cc
 
 module _ {C V : Type 0} (front back : C → ℕ) (r : ℕ) (ms others : List (Member C V)) (shuffled : IsPermutation ms others) where
   codes_number : (x y : ℕ × ℕ) (f g : Fault) → Err f ≡ and_then (codes_checked (half front) (half back) (2 ^ r) ms) (λ _. Ok x)

@@ -4,12 +4,12 @@ ghost use Rattle.displace.specs.Columns.{ColumnsFit, written};
 ghost use Rattle.rounds.specs.Halves.{firsts, pairs_of, places_of, seconds};
 ghost use Rattle.build.specs.Checked.{columns_checked};
 
-use crate::laws;
 use checks::{large_half, repeated};
 use fault::Fault;
 use rounds::rounds;
 
 // Refuses halves of size or more, and codes that come twice.
+#[tactic(auto, using(crate::proofs::Checking::large_refused, crate::proofs::Checking::repeated_refused))]
 pub(crate) fn check(
     size: usize,
     fronts: &[u32],
@@ -22,16 +22,9 @@ pub(crate) fn check(
     requires work { size + length fronts.now ≤ length work.old }
     ensures { result ≡ columns_checked size fronts.now backs.now }
 {
-    laws::checks(size, fronts, backs);
-    match large_half(size, fronts, backs) {
-        Some(fault) => return Err(fault),
-        None => {}
-    }
+    large_half(size, fronts, backs)?;
     let (heads, links) = work.split_at_mut(size);
-    match repeated(fronts, backs, heads, links) {
-        Some(position) => Err(Fault::RepeatedCode { position }),
-        None => Ok(()),
-    }
+    repeated(fronts, backs, heads, links)
 }
 
 // Sets both lists, in their first 2^r, and the place of each member, and answers the shared pairs.

@@ -5,10 +5,10 @@ ghost use Rattle.std.specs.Prelude.{◌≡◌, ◌*◌, ◌≤◌, length, repli
 ghost use Rattle.lists.specs.Size.{Accepted, work_per_place};
 ghost use Rattle.build.specs.Checked.{counts_checked, places_per_member};
 ghost use Rattle.build.specs.Built.{Built};
+ghost use Rattle.build.specs.Filled.{slot_of};
 ghost use Rattle.build.specs.Laws.{Lawful, OrderFree};
 
 mod columns;
-mod laws;
 mod members;
 mod parts;
 
@@ -23,6 +23,19 @@ use slots::Slot;
 pub struct Member<C, V> {
     pub code: C,
     pub entry: V,
+}
+
+// The slot that holds a member.
+impl<C, V> From<Member<C, V>> for Slot<C, V> {
+    fn from(member: Member<C, V>) -> Slot<C, V>
+        ensures { result ≡ slot_of member }
+    {
+        Slot {
+            full: true,
+            code: member.code,
+            entry: member.entry,
+        }
+    }
 }
 
 // The places that an index has for each member, at least.
@@ -50,27 +63,6 @@ fn checked_counts(
     Ok(size)
 }
 
-// The build, with the work list under guard.
-fn build_all<C: Code, V: Copy>(
-    r: u32,
-    members: &[Member<C, V>],
-    first: &mut [u16],
-    second: &mut [u16],
-    slots: &mut [Slot<C, V>],
-    work: &mut [u32],
-) -> Result<(usize, u64), Fault>
-    ensures zero { work.new ≡ replicate (length work.old) 0 }
-    ensures built { Built C.Code.front_of C.Code.back_of r members.now first.old second.old slots.old (length work.old) result first.new second.new slots.new }
-{
-    let guard = WorkGuard { work };
-    let words = guard.work.len();
-    laws::answers(r, members, first.len(), second.len(), slots.len(), words);
-    let n = members.len();
-    let size = checked_counts(r, n, first.len(), second.len(), slots.len(), words)?;
-    let pairs = build_parts(r, size, members, first, second, slots, guard.work)?;
-    Ok((n, pairs))
-}
-
 // Builds an index of half width r from its members, and answers their number and the shared pairs: the pairs of members
 // with one first place. It sets the first 2^r of both lists and of the slots, and lets the rest be. Each member stands in
 // the slot at its place; the other slots are marked empty, and keep code and entry. Refusals come in the order of their
@@ -88,7 +80,12 @@ pub fn build<C: Code, V: Copy>(
     ensures law { Lawful C.Code.front_of C.Code.back_of r members.now (length first.old) (length second.old) (length slots.old) (length work.old) result }
     ensures order { OrderFree C.Code.front_of C.Code.back_of r members.now first.old second.old slots.old (length work.old) result first.new second.new slots.new }
 {
-    build_all(r, members, first, second, slots, work)
+    let guard = WorkGuard { work };
+    let words = guard.work.len();
+    let n = members.len();
+    let size = checked_counts(r, n, first.len(), second.len(), slots.len(), words)?;
+    let pairs = build_parts(r, size, members, first, second, slots, guard.work)?;
+    Ok((n, pairs))
 }
 
 #[cfg(test)]

@@ -1,14 +1,15 @@
 // Loops over the members and the slots: halves into columns, marks taken off, members into slots.
-ghost use Rattle.std.specs.Prelude.{◌≡◌, ◌<◌, ◌≤◌, map, length, slice_set};
+ghost use Rattle.std.specs.Prelude.{◌≡◌, ◌≤◌, length};
 ghost use Rattle.displace.specs.Columns.{Below};
-ghost use Rattle.build.specs.Filled.{filled, refilled, slot_of, vacant};
+ghost use Rattle.build.specs.Filled.{emptied, filled};
 ghost use Rattle.build.specs.Steps.{column};
 
-use crate::{Member, laws};
+use crate::Member;
 use codes::Code;
 use slots::Slot;
 
 // Writes the halves of the members to two columns.
+#[tactic(auto, using(crate::proofs::Halves::column_more), unfolding(crate::specs::Steps::column))]
 pub(crate) fn write_halves<C: Code, V>(
     members: &[Member<C, V>],
     fronts: &mut [u32],
@@ -19,60 +20,35 @@ pub(crate) fn write_halves<C: Code, V>(
     ensures fronts { fronts.new ≡ column C.Code.front_of members.now }
     ensures backs { backs.new ≡ column C.Code.back_of members.now }
 {
-    laws::columns(members);
+    // Not a zip with iter_mut: a proof has no name for what such a zip writes, so what the columns hold stays open.
     for (i, member) in members.iter().enumerate() {
         fronts[i] = member.code.front();
         backs[i] = member.code.back();
     }
 }
 
-// Marks the slots empty. They keep their codes and entries.
-fn empty<C: Copy, V: Copy>(slots: &mut [Slot<C, V>])
-    ensures { slots.new ≡ map vacant slots.old }
+// Marks the first slots empty, as many as the index has places. They keep their codes and entries.
+#[tactic(auto, using(crate::proofs::Filling::emptied_more, crate::proofs::Filling::emptied_part))]
+pub(crate) fn empty<C: Copy, V: Copy>(size: usize, slots: &mut [Slot<C, V>])
+    requires { size ≤ length slots.old }
+    ensures { slots.new ≡ emptied size slots.old }
 {
-    laws::empty(slots);
-    for slot in slots.iter_mut() {
+    for slot in &mut slots[..size] {
         slot.full = false;
     }
 }
 
-// Writes a member to a slot.
-fn put<C: Copy, V: Copy>(slots: &mut [Slot<C, V>], place: usize, member: &Member<C, V>)
-    requires { place < length slots.old }
-    ensures { slots.new ≡ slice_set slots.old place (slot_of member.now) }
-{
-    slots[place] = Slot {
-        full: true,
-        code: member.code,
-        entry: member.entry,
-    };
-}
-
 // Writes each member to the slot at its place.
-fn fill<C: Copy, V: Copy>(members: &[Member<C, V>], places: &[u32], slots: &mut [Slot<C, V>])
-    requires long { length places.now ≡ length members.now }
-    requires within { Below (length slots.old) places.now }
-    ensures { slots.new ≡ filled places.now members.now slots.old }
-{
-    laws::fill(members, places);
-    for (i, member) in members.iter().enumerate() {
-        put(slots, places[i] as usize, member);
-    }
-}
-
-// Marks the first slots empty, as many as the index has places, and writes the members to theirs.
-pub(crate) fn set_slots<C: Copy, V: Copy>(
-    size: usize,
+pub(crate) fn fill<C: Copy, V: Copy>(
     members: &[Member<C, V>],
     places: &[u32],
     slots: &mut [Slot<C, V>],
 )
-    requires size { size ≤ length slots.old }
     requires long { length places.now ≡ length members.now }
     requires within { Below (length slots.old) places.now }
-    ensures { slots.new ≡ refilled size places.now members.now slots.old }
+    ensures { slots.new ≡ filled places.now members.now slots.old }
 {
-    laws::refill(size, members, places, slots);
-    empty(&mut slots[0..size]);
-    fill(members, places, slots);
+    for (member, place) in members.iter().zip(places) {
+        slots[*place as usize] = Slot::from(*member);
+    }
 }

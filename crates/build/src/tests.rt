@@ -150,14 +150,10 @@ fn refused(rt: HostRuntime) {
 #[test]
 fn largest(rt: HostRuntime) -> Result<(), Fail> {
     let heap = rt.alloc();
-    let mut members = Vec::new(heap);
-    for i in 0..8192u32 {
-        members.push(member(i / 100, i % 100, i))?;
-    }
-    let mut slots = Vec::new(heap);
-    for _ in 0..65_536 {
-        slots.push(slot(false))?;
-    }
+    let mut members: Vec<Member<Pair, u32>> = (0..8192u32)
+        .map(|i| member(i / 100, i % 100, i))
+        .collect(heap)?;
+    let mut slots = vec![in heap; slot(false); 65_536]?;
     let mut first = vec![in heap; 0; 65_536]?;
     let mut second = vec![in heap; 0; 65_536]?;
     let mut work = vec![in heap; 0; 524_288]?;

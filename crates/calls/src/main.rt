@@ -1,9 +1,9 @@
 // Carries out a script of calls on one index, a command to a line, and prints one line for each that answers.
 #![tactic(auto)]
 
-use codes::{ChartEntry, FiledEntry, Pattern, Rods, Row, Shelf, Stroke};
+use codes::{Pattern, Row};
+use fault::Refused;
 use index::Index;
-use slots::Slot;
 use std::alloc::Global;
 use std::io;
 use std::io::{BufWriter, Read, Write};
@@ -15,11 +15,11 @@ mod stop;
 mod text;
 mod words;
 
-// The index in memory, by the kind of its codes.
+// The index in memory, by the kind of its codes: no `dyn`, since its commands are generic in where they write.
 #[derive(Drop)]
 enum Held {
-    Patterns(Index<Pattern, Shelf>),
-    Chart(Index<Row, ChartEntry>),
+    Patterns(Index<Pattern>),
+    Chart(Index<Row>),
 }
 
 fn main(rt: HostRuntime) -> io::Result<()> {
@@ -33,63 +33,37 @@ fn main(rt: HostRuntime) -> io::Result<()> {
 
 // Carries out every line in turn.
 fn run<W: Write>(heap: Global, script: &[u8], out: &mut W) -> io::Result<()> {
-    let mut held = patterns(heap, 4)?;
-    let mut at = 0;
-    while at < script.len() {
-        let end = words::end(script, at, b'\n');
-        match command(heap, &mut held, &script[at..end], out) {
+    let mut held = Held::Patterns(Index::new(heap, 4)?);
+    for line in script.split_inclusive(|b| *b == b'\n') {
+        match command(heap, &mut held, line, out) {
             Ok(()) => {}
             Err(Stop::Bad) => writeln!(out, "bad")?,
+            Err(Stop::Refused(fault)) => writeln!(out, "{}", Refused(fault))?,
             Err(Stop::Io(error)) => return Err(error),
         }
-        at = end + 1;
     }
     Ok(())
 }
 
 // Carries out one line.
 fn command<W: Write>(heap: Global, held: &mut Held, line: &[u8], out: &mut W) -> Result<(), Stop> {
+    let line = line.strip_suffix(b"\n").unwrap_or(line);
+    let Ok(line) = str::from_utf8(line) else {
+        return Err(Stop::Bad);
+    };
     let mut words = Words::new(line);
-    let verb = words.next()?;
-    match verb {
-        b"patterns" => {
-            let r = words.number(0xFFFF_FFFF)? as u32;
-            words.done()?;
-            *held = patterns(heap, r)?;
+    match words.word()? {
+        "patterns" => {
+            *held = Held::Patterns(Index::new(heap, words.last()?)?);
             Ok(())
         }
-        b"chart" => {
-            let r = words.number(0xFFFF_FFFF)? as u32;
-            words.done()?;
-            *held = chart(heap, r)?;
+        "chart" => {
+            *held = Held::Chart(Index::new(heap, words.last()?)?);
             Ok(())
         }
-        _ => match held {
+        verb => match held {
             Held::Patterns(index) => index.command(verb, words, out),
             Held::Chart(index) => index.command(verb, words, out),
         },
     }
-}
-
-// A new index of patterns.
-fn patterns(heap: Global, r: u32) -> io::Result<Held> {
-    let blank = Slot {
-        full: false,
-        code: Pattern::new(0, 0),
-        entry: Shelf(0),
-    };
-    Ok(Held::Patterns(Index::new(heap, r, blank)?))
-}
-
-// A new index of a chart.
-fn chart(heap: Global, r: u32) -> io::Result<Held> {
-    let blank = Slot {
-        full: false,
-        code: Row { round: 0, stake: 0 },
-        entry: ChartEntry {
-            stroke: Stroke::Randing,
-            rods: Rods::One,
-        },
-    };
-    Ok(Held::Chart(Index::new(heap, r, blank)?))
 }

@@ -1,4 +1,5 @@
 // Why a command was not carried out.
+use fault::Fault;
 use std::alloc::{AllocError, AllocFailed};
 use std::io;
 
@@ -6,8 +7,16 @@ use std::io;
 pub enum Stop {
     // The line is no command, or a number or an index is out of its range: nothing was changed.
     Bad,
+    // The library refused the call.
+    Refused(Fault),
     // Output or memory failed: the program ends.
     Io(io::Error),
+}
+
+impl From<Fault> for Stop {
+    fn from(fault: Fault) -> Stop {
+        Stop::Refused(fault)
+    }
 }
 
 impl From<io::Error> for Stop {
@@ -23,8 +32,7 @@ impl From<AllocError> for Stop {
 }
 
 impl<T: Drop> From<AllocFailed<T>> for Stop {
-    fn from(refused: AllocFailed<T>) -> Stop {
-        let _ = refused;
+    fn from(_refused: AllocFailed<T>) -> Stop {
         Stop::Io(AllocError.into())
     }
 }

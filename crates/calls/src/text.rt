@@ -1,59 +1,78 @@
-// How codes stand in a script.
-use crate::words;
-use codes::{Code, Pattern, Row};
-use std::io;
-use std::io::Write;
+// How numbers and codes stand in a script, and what a new index of each kind of code holds.
+use codes::{ChartEntry, Code, FiledEntry, Pattern, Rods, Row, Shelf, Stroke};
+use slots::Slot;
+use std::fmt;
+use std::str::FromStr;
 
-// A kind of code with a written form.
-pub trait Scripted: Code {
-    // The code that a word writes.
-    fn read(word: &[u8]) -> Option<Self>;
+// A kind of code with a written form, and with entries that go with its codes.
+pub trait Scripted: Code + fmt::Display {
+    type Entry: FiledEntry;
 
-    fn show<W: Write>(&self, out: &mut W) -> io::Result<()>;
+    // The code that a word writes. It is no `FromStr`, since a script has neither a + nor the round -0.
+    fn read(word: &str) -> Option<Self>;
+
+    // A slot of a new index.
+    fn blank() -> Slot<Self, Self::Entry>;
 }
 
 // FRONT.BACK, each below 65,536.
 impl Scripted for Pattern {
-    fn read(word: &[u8]) -> Option<Pattern> {
-        let dot = words::end(word, 0, b'.');
-        if dot == word.len() {
-            return None;
-        }
-        let front = words::number(&word[0..dot], 65_535)?;
-        let back = words::number(&word[dot + 1..], 65_535)?;
-        Some(Pattern::new(front as u16, back as u16))
+    type Entry = Shelf;
+
+    fn read(word: &str) -> Option<Pattern> {
+        let (front, back) = word.split_once('.')?;
+        Some(Pattern::new(number(front)?, number(back)?))
     }
 
-    fn show<W: Write>(&self, out: &mut W) -> io::Result<()> {
-        write!(out, "{}.{}", self.front(), self.back())
+    fn blank() -> Slot<Pattern, Shelf> {
+        Slot {
+            full: false,
+            code: Pattern::new(0, 0),
+            entry: Shelf(0),
+        }
     }
 }
 
 // ROUND.STAKE, the round from -32,768 to 32,767 with a - before a negative one, the stake below 65,536.
 impl Scripted for Row {
-    fn read(word: &[u8]) -> Option<Row> {
-        let dot = words::end(word, 0, b'.');
-        if dot == word.len() {
-            return None;
-        }
-        let round = round(&word[0..dot])?;
-        let stake = words::number(&word[dot + 1..], 65_535)? as u16;
-        Some(Row { round, stake })
+    type Entry = ChartEntry;
+
+    fn read(word: &str) -> Option<Row> {
+        let (round, stake) = word.split_once('.')?;
+        Some(Row {
+            round: read_round(round)?,
+            stake: number(stake)?,
+        })
     }
 
-    fn show<W: Write>(&self, out: &mut W) -> io::Result<()> {
-        write!(out, "{}.{}", self.round, self.stake)
+    fn blank() -> Slot<Row, ChartEntry> {
+        Slot {
+            full: false,
+            code: Row { round: 0, stake: 0 },
+            entry: ChartEntry {
+                stroke: Stroke::Randing,
+                rods: Rods::One,
+            },
+        }
     }
 }
 
 // A round in decimal digits, behind a - if it is below 0.
-fn round(word: &[u8]) -> Option<i16> {
-    if word.is_empty() || word[0] != b'-' {
-        return Some(words::number(word, 32_767)? as i16);
-    }
-    let below = words::number(&word[1..], 32_768)?;
-    if below == 0 {
+fn read_round(word: &str) -> Option<i16> {
+    let round = number(word)?;
+    if round == 0 && word.starts_with('-') {
         return None;
     }
-    Some(-1 - (below - 1) as i16)
+    Some(round)
+}
+
+// The number that decimal digits write, if the type has it. There is no + before them, which `parse` would take.
+pub fn number<T: FromStr>(word: &str) -> Option<T>
+where
+    T::Err: Drop,
+{
+    if word.starts_with('+') {
+        return None;
+    }
+    word.parse().ok()
 }

@@ -1,80 +1,65 @@
-// The words of a line, parted by single spaces, and the numbers among them.
-ghost use Rattle.std.specs.Prelude.{◌≤◌, length, IfSome, IfOk};
-
+// The words of a line, parted by single spaces, and what they write.
 use crate::stop::Stop;
+use crate::text::{Scripted, number};
+use codes::FiledEntry;
+use std::str::{FromStr, Split};
 
 #[derive(Drop)]
-pub struct Words<'a> {
-    line: &'a [u8],
-    // Where the next word begins; beyond the line once there is none.
-    at: usize,
-}
+pub struct Words<'a>(Split<'a, char>);
 
 impl<'a> Words<'a> {
-    pub fn new(line: &'a [u8]) -> Words<'a> {
-        Words { line, at: 0 }
+    pub fn new(line: &'a str) -> Words<'a> {
+        Words(line.split(' '))
     }
 
     // The next word.
-    pub fn next(&mut self) -> Result<&'a [u8], Stop> {
-        let at = self.at;
-        if at > self.line.len() {
-            return Err(Stop::Bad);
-        }
-        let end = end(self.line, at, b' ');
-        self.at = end.saturating_add(1);
-        Ok(&self.line[at..end])
+    pub fn word(&mut self) -> Result<&'a str, Stop> {
+        self.0.next().ok_or(Stop::Bad)
     }
 
-    // The next word as a number that is at most so large.
-    pub fn number(&mut self, most: u64) -> Result<u64, Stop>
-        ensures { IfOk result (λ k. k ≤ most) }
+    // The next word as a number.
+    pub fn number<T: FromStr>(&mut self) -> Result<T, Stop>
+    where
+        T::Err: Drop,
     {
-        let word = self.next()?;
-        match number(word, most) {
-            Some(n) => Ok(n),
-            None => Err(Stop::Bad),
+        number(self.word()?).ok_or(Stop::Bad)
+    }
+
+    // The last word as a number.
+    pub fn last<T: FromStr>(mut self) -> Result<T, Stop>
+    where
+        T: Drop,
+        T::Err: Drop,
+    {
+        let n = self.number()?;
+        self.done()?;
+        Ok(n)
+    }
+
+    // The next word as a code.
+    pub fn code<C: Scripted>(&mut self) -> Result<C, Stop> {
+        C::read(self.word()?).ok_or(Stop::Bad)
+    }
+
+    // The next word as the number of an entry.
+    pub fn entry<V: FiledEntry>(&mut self) -> Result<V, Stop> {
+        V::from_number(self.number()?).ok_or(Stop::Bad)
+    }
+
+    // The next word as the mark of a slot, `full` or `empty`.
+    pub fn mark(&mut self) -> Result<bool, Stop> {
+        match self.word()? {
+            "full" => Ok(true),
+            "empty" => Ok(false),
+            _ => Err(Stop::Bad),
         }
     }
 
     // Refuses a line with words left.
-    pub fn done(&self) -> Result<(), Stop> {
-        if self.at <= self.line.len() {
-            return Err(Stop::Bad);
-        }
-        Ok(())
-    }
-}
-
-// The offset of the first such byte from `at` on, or the length.
-pub(crate) fn end(bytes: &[u8], at: usize, byte: u8) -> usize
-    requires { at ≤ length bytes.now }
-    ensures from { at ≤ result }
-    ensures within { result ≤ length bytes.now }
-{
-    let mut e = at;
-    while e < bytes.len() && bytes[e] != byte {
-        e += 1;
-    }
-    e
-}
-
-// The number that decimal digits write, if it is at most so large.
-pub fn number(digits: &[u8], most: u64) -> Option<u64>
-    ensures { IfSome result (λ k. k ≤ most) }
-{
-    if digits.is_empty() {
-        return None;
-    }
-    let mut n: u64 = 0;
-    for d in digits {
-        if *d < b'0' || *d > b'9' {
-            return None;
-        }
-        n = n.checked_mul(10)?.checked_add(u64::from(*d - b'0'))?;
-        if n > most {
-            return None;
+    pub fn done(mut self) -> Result<(), Stop> {
+        match self.0.next() {
+            None => Ok(()),
+            Some(_) => Err(Stop::Bad),
         }
     }
-    Some(n)
 }

@@ -1,12 +1,12 @@
 -- No half is too large exactly if all fit. Assumes nothing.
-use Rattle.std.proofs.Common.{◌≡◌, ℕ, ◌+◌, ◌^◌, Bool, true, false, cond, leb, List, [], ◌∷◌, map, Some, None, Option, refl, ◌∙◌, arith}
+use Rattle.std.proofs.Common.{◌≡◌, ℕ, ◌+◌, ◌^◌, Bool, true, false, cond, leb, List, [], ◌∷◌, map, Some, None, Option, refl, ◌∙◌}
 use Rattle.std.proofs.lemmas.Bool.{leb-false, lt-leb, cond-false}
 use Rattle.rule.specs.Places.{Each, Fit}
 use Rattle.checks.specs.Checks.{large_half_of}
 
 -- where a test finds something, the answer is not none
 pub test_failed : {A : Type 0} (b : Bool) (x : A) (rest : Option A) → cond b (Some x) rest ≡ None → (b ≡ false) × (rest ≡ None)
-test_failed true x rest e = let z : ◌≡◌ {A = ℕ} 0 1 = cc in absurd (omega arith)
+test_failed true x rest e = absurd cc
 test_failed false x rest e = (refl, e)
 
 module _ {X : Type 0} (front back : X → ℕ) (r : ℕ) where

@@ -1,11 +1,14 @@
 -- The steps of the checks. Assumes nothing.
-use Rattle.std.proofs.Common.{◌≡◌, ℕ, zero, suc, ◌+◌, ◌-◌, ◌<◌, ◌≤◌, true, false, cond, ◌&&◌, eqb, List, [], ◌∷◌, ◌++◌, length, get_or, take, drop, set, replicate, Some, None, sym, refl, ap, ◌∙◌, subst, ap₂, ⊎_elim, not-suc-le-zero, arith}
+use Rattle.std.proofs.Common.{◌≡◌, ℕ, zero, suc, ◌+◌, ◌-◌, ◌<◌, ◌≤◌, true, false, cond, ◌&&◌, eqb, leb, min, List, [], ◌∷◌, ◌++◌, length, get_or, take, drop, set, replicate, Some, None, sym, refl, ap, ◌∙◌, subst, ap₂, ⊎_elim, not-suc-le-zero, arith}
 use Rattle.std.specs.List.{zip}
 use Rattle.std.proofs.lemmas.List.{at_drop_more, at_drop_all, take_more, length-set, get_or-set_same, get_or-set_other, get_or-replicate}
 use Rattle.std.proofs.lemmas.Slice.Zip.{get_or-zip, length-zip}
-use Rattle.std.proofs.lemmas.Bool.{and_parts, eqb-true, or_left, or_right, or_from, cond-true, cond-false, cases_Bool, cases_eq, cases_order}
+use Rattle.std.proofs.lemmas.Bool.{and_parts, eqb-true, or_left, or_right, or_from, cond-true, cond-false, le-leb, lt-leb, cases_Bool, cases_eq, cases_order}
+use Rattle.fault.specs.declared.Fault.TheVariants.{LargeHalf}
+use Rattle.fault.specs.declared.Half.TheVariants.{Front, Back}
+use Rattle.checks.proofs.Rows.{At}
 use Rattle.checks.specs.Checks.{large_half_of, large_in, among, repeated, repeated_in}
-use Rattle.checks.specs.Steps.{large_from, LargeLaw, repeated_from, bucket_of, bucket_at, same_at, Leads, Chained, Passed, SearchLaw}
+use Rattle.checks.specs.Steps.{large_from, repeated_from, bucket_of, bucket_at, code_at, same_at, Leads, Chained, Passed}
 
 -- a function of the rows from i on, one row more
 rows_more : {Y : Type 0} (F : List (ℕ × ℕ) → Y) (fronts backs : List ℕ) (i : ℕ) → i < length fronts → i < length backs
@@ -15,16 +18,31 @@ rows_more F fronts backs i f b =
     at_drop_more F (zip fronts backs) i (0, 0) (omega arith) ∙ ap (λ x. F (x ∷ drop (i + 1) (zip fronts backs))) (get_or-zip fronts backs i (0, 0) f b)
 
 -- ---- large halves
-pub large_law : (n : ℕ) (fronts backs : List ℕ) → LargeLaw n fronts backs
-unfolding large_from large_in large_half_of
-large_law n fronts backs =
-    record {
-      start = refl;
-      more = λ i f b. rows_more (large_half_of (λ (x : ℕ × ℕ). x.0) (λ (x : ℕ × ℕ). x.1) n i) fronts backs i f b;
-      end = λ i h.
-          let long = length-zip fronts backs in
-          at_drop_all (large_half_of (λ (x : ℕ × ℕ). x.0) (λ (x : ℕ × ℕ). x.1) n i) (zip fronts backs) i (omega arith);
-    }
+module _ (n : ℕ) (fronts backs : List ℕ) (i position front back : ℕ) (at : At fronts backs i position front back) where
+  large_here : large_from n fronts backs i ≡ cond (leb n front) (Some (LargeHalf Front position)) (cond (leb n back) (Some (LargeHalf Back position)) (large_from n fronts backs (i + 1)))
+  unfolding large_from large_half_of
+  large_here =
+      rw (at.position_is, at.front_is, at.back_is)
+      (rows_more (large_half_of (λ (x : ℕ × ℕ). x.0) (λ (x : ℕ × ℕ). x.1) n i) fronts backs i at.in_fronts at.in_backs)
+
+  pub large_front : n ≤ front → large_from n fronts backs i ≡ Some (LargeHalf Front position)
+  large_front h = large_here ∙ cond-true _ _ _ (le-leb n front h)
+
+  pub large_back : front < n → n ≤ back → large_from n fronts backs i ≡ Some (LargeHalf Back position)
+  large_back f h = large_here ∙ cond-false _ _ _ (lt-leb n front f) ∙ cond-true _ _ _ (le-leb n back h)
+
+  pub large_more : front < n → back < n → large_from n fronts backs i ≡ large_from n fronts backs (i + 1)
+  large_more f b = large_here ∙ cond-false _ _ _ (lt-leb n front f) ∙ cond-false _ _ _ (lt-leb n back b)
+
+pub large_start : (n : ℕ) (fronts backs : List ℕ) → large_from n fronts backs 0 ≡ large_in n fronts backs
+unfolding large_from large_in
+large_start n fronts backs = refl
+
+pub large_end : (n : ℕ) (fronts backs : List ℕ) (i : ℕ) → i ≡ min (length fronts) (length backs) → large_from n fronts backs i ≡ None
+unfolding large_from large_half_of
+large_end n fronts backs i e =
+    let long = length-zip fronts backs in
+    at_drop_all (large_half_of (λ (x : ℕ × ℕ). x.0) (λ (x : ℕ × ℕ). x.1) n i) (zip fronts backs) i (omega arith)
 
 -- ---- a code among the first i
 module _ {X : Type 0} (front back : X → ℕ) (x d : X) where
@@ -55,7 +73,7 @@ module _ (fronts backs : List ℕ) where
   other_bucket buckets k i ne =
       ⊎_elim {C = same_at fronts backs k i ≡ false} (λ e. absurd (ne (same_bucket buckets k i e))) (λ e. e) (cases_Bool (same_at fronts backs k i))
 
-  chain_empty : (heads links : List ℕ) → heads ≡ replicate (length heads) 0 → Chained fronts backs heads links 0
+  pub chain_empty : (heads links : List ℕ) → heads ≡ replicate (length heads) 0 → Chained fronts backs heads links 0
   chain_empty heads links e =
       record {
         last = λ v h.
@@ -178,25 +196,47 @@ module _ (fronts backs : List ℕ) (equal : length backs ≡ length fronts) wher
       ap (λ (y : ℕ × ℕ). eqb y.0 x.0 && eqb y.1 x.1) (get_or-zip fronts backs k (0, 0) (omega arith) (omega arith))
       ∙ passed.unlike k (omega arith) b))
 
-  search_end : (i : ℕ) → length fronts ≤ i → repeated_from fronts backs i ≡ None
+  pub search_end : (i : ℕ) → length fronts ≤ i → repeated_from fronts backs i ≡ None
   unfolding repeated_from repeated
   search_end i h =
       let long = length-zip fronts backs in
       at_drop_all (repeated (λ (x : ℕ × ℕ). x.0) (λ (x : ℕ × ℕ). x.1) (take i (zip fronts backs)) i) (zip fronts backs) i (omega arith)
 
-  search_start : repeated_from fronts backs 0 ≡ repeated_in fronts backs
+  pub search_start : repeated_from fronts backs 0 ≡ repeated_in fronts backs
   unfolding repeated_from repeated_in
   search_start = refl
 
-  pub search_law : SearchLaw fronts backs
-  search_law =
-      record {
-        start = search_start;
-        empty = chain_empty fronts backs;
-        head = λ heads links i v chained h e. chain_head fronts backs heads links i chained v h e;
-        next = λ heads links i row chained passed some differs. chain_next fronts backs heads links i chained row passed some differs;
-        found = search_found;
-        more = search_more;
-        enter = λ heads links i v chained room h e. chain_enter fronts backs heads links i chained v room h e;
-        end = search_end;
-      }
+  -- at the row at position, in bucket v
+  module _ (heads links : List ℕ) (i position front back v : ℕ) (at : At fronts backs i position front back) (chained : Chained fronts backs heads links i)
+      (h : v < length heads) (bucket : v ≡ bucket_of (length heads) front back) where
+    bucket_is : v ≡ bucket_of (length heads) (get_or fronts i 0) (get_or backs i 0)
+    bucket_is = bucket ∙ ap₂ (bucket_of (length heads)) at.front_is at.back_is
+
+    chained_here : Chained fronts backs heads links position
+    chained_here = subst (λ (k : ℕ). Chained fronts backs heads links k) (sym at.position_is) chained
+
+    pub first_row : (position < length fronts) × Passed fronts backs (length heads) position (get_or heads v 0)
+    first_row =
+        (omega (arith, at.in_fronts, at.position_is), subst (λ (k : ℕ). Passed fronts backs (length heads) k (get_or heads v 0)) (sym at.position_is) (chain_head fronts backs heads links i chained v h bucket_is))
+
+    module _ (row : ℕ) (passed : Passed fronts backs (length heads) position row) where
+      same_here : same_at fronts backs (row - 1) position ≡ code_at fronts backs (row - 1) front back
+      same_here =
+          rw (at.front_is, at.back_is)
+          (ap (same_at fronts backs (row - 1)) at.position_is)
+
+      pub next_row : 0 < row → code_at fronts backs (row - 1) front back ≡ false → (position < length fronts) × Passed fronts backs (length heads) position (get_or links (row - 1) 0)
+      next_row some differs = (omega (arith, at.in_fronts, at.position_is), chain_next fronts backs heads links position chained_here row passed some (same_here ∙ differs))
+
+      pub row_found : 0 < row → code_at fronts backs (row - 1) front back ≡ true → repeated_from fronts backs i ≡ Some position
+      row_found some same =
+          ap (repeated_from fronts backs) (sym at.position_is)
+          ∙ search_found position (row - 1) (omega (arith, passed.within)) (omega (arith, at.in_fronts, at.position_is)) (same_here ∙ same)
+
+      pub rows_end : row ≤ 0 → position < length links
+          → (repeated_from fronts backs (i + 1) ≡ repeated_from fronts backs i) × Chained fronts backs (set heads v (position + 1)) (set links position (get_or heads v 0)) (i + 1)
+      rows_end end room = (
+        sym (search_more (length heads) i row at.in_fronts (subst (λ (k : ℕ). Passed fronts backs (length heads) k row) at.position_is passed) end),
+        subst (λ (k : ℕ). Chained fronts backs (set heads v (k + 1)) (set links k (get_or heads v 0)) (i + 1)) (sym at.position_is)
+            (chain_enter fronts backs heads links i chained v (omega (arith, room, at.position_is)) h bucket_is),
+      )

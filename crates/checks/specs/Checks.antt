@@ -1,5 +1,5 @@
 -- What is checked of members before a build: both halves of each fit, and no code comes twice. Assumes nothing.
-use Rattle.std.specs.Prelude.{◌≡◌, ℕ, ◌+◌, ◌^◌, ◌<◌, ◌≤◌, Bool, false, cond, ◌&&◌, ◌||◌, List, [], ◌∷◌, ◌++◌, Some, None, Option, ◌==◌, nat_le}
+use Rattle.std.specs.Prelude.{◌≡◌, ℕ, ◌+◌, ◌^◌, ◌<◌, ◌≤◌, Bool, false, cond, ◌&&◌, ◌||◌, List, [], ◌∷◌, ◌++◌, Some, None, Ok, Err, Option, Result, ◌==◌, nat_le}
 use Rattle.std.specs.List.{zip}
 use Rattle.fault.specs.declared.Fault.{Fault}
 use Rattle.fault.specs.declared.Fault.TheVariants.{LargeHalf}
@@ -31,6 +31,11 @@ large_in n fronts backs = large_half_of (λ (x : ℕ × ℕ). x.0) (λ (x : ℕ 
 
 unfoldable pub repeated_in : List ℕ → List ℕ → Option ℕ
 repeated_in fronts backs = repeated (λ (x : ℕ × ℕ). x.0) (λ (x : ℕ × ℕ). x.1) [] 0 (zip fronts backs)
+
+-- a check refuses by the fault that it finds, if there is one
+abbrev pub refused : Option Fault → Result (Unit {0}) Fault
+refused None = Ok tt
+refused (Some fault) = Err fault
 
 -- columns of these lengths are equal, and so short that positions fit 32 bits, and the lists lent to the search,
 -- which holds buckets in one and a link for each position in the other, are long enough

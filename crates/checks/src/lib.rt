@@ -1,53 +1,53 @@
 // The checks of a build's members, on two columns of halves: halves that are too large, and codes that come twice.
+// The halves stand in two columns, since the lent work list holds plain words, and the library takes no memory.
+// Each column is a parameter of its own, since both checks answer for columns of unlike lengths too.
 #![tactic(auto)]
 
-ghost use Rattle.std.specs.Prelude.{◌≡◌, length, None};
-ghost use Rattle.checks.specs.Checks.{large_in, repeated_in, Room};
+ghost use Rattle.std.specs.Prelude.{◌≡◌, length, Ok, option_map};
+ghost use Rattle.fault.specs.declared.Fault.TheVariants.{RepeatedCode};
+ghost use Rattle.checks.specs.Checks.{large_in, refused, repeated_in, Room};
 
 use fault::{Fault, Half};
+use repeats::Codes;
 
-mod laws;
 mod repeats;
 
-// A position, and one more, is held in 32 bits.
-const MOST_MEMBERS: usize = 0xFFFF_FFFF;
-
-// The lowest position with a half of n or more.
-pub fn large_half(n: usize, fronts: &[u32], backs: &[u32]) -> Option<Fault>
-    ensures { result ≡ large_in n fronts.now backs.now }
+// Refuses the lowest position with a half of n or more.
+pub fn large_half(n: usize, fronts: &[u32], backs: &[u32]) -> Result<(), Fault>
+    ensures { result ≡ refused (large_in n fronts.now backs.now) }
 {
-    laws::large(n, fronts, backs);
-    for position in 0..fronts.len().min(backs.len()) {
-        if fronts[position] as usize >= n {
-            return Some(Fault::LargeHalf {
+    for (position, (front, back)) in fronts.iter().zip(backs).enumerate() {
+        if *front as usize >= n {
+            return Err(Fault::LargeHalf {
                 half: Half::Front,
                 position,
             });
         }
-        if backs[position] as usize >= n {
-            return Some(Fault::LargeHalf {
+        if *back as usize >= n {
+            return Err(Fault::LargeHalf {
                 half: Half::Back,
                 position,
             });
         }
     }
-    None
+    Ok(())
 }
 
-// The lowest position whose code came before, if the columns are equally long and the lists lent suffice; else none.
-// What heads and links hold after is not told.
+// Refuses the lowest position whose code came before, if the columns are equally long and the lists lent suffice; else
+// nothing. What heads and links hold after is not told.
 pub fn repeated(
     fronts: &[u32],
     backs: &[u32],
     heads: &mut [u32],
     links: &mut [u32],
-) -> Option<usize>
-    ensures found { Room (length fronts.now) (length backs.now) (length heads.old) (length links.old) → result ≡ repeated_in fronts.now backs.now }
-    ensures unfit { (Room (length fronts.now) (length backs.now) (length heads.old) (length links.old) → ⊥) → result ≡ None }
+) -> Result<(), Fault>
+    ensures found { Room (length fronts.now) (length backs.now) (length heads.old) (length links.old) → result ≡ refused (option_map RepeatedCode (repeated_in fronts.now backs.now)) }
+    ensures unfit { (Room (length fronts.now) (length backs.now) (length heads.old) (length links.old) → ⊥) → result ≡ Ok tt }
 {
     let n = fronts.len();
-    if backs.len() != n || n > MOST_MEMBERS || heads.len() == 0 || links.len() < n {
-        return None;
+    // A position, and one more, is held in 32 bits.
+    if backs.len() != n || n > u32::MAX as usize || heads.is_empty() || links.len() < n {
+        return Ok(());
     }
-    repeats::search(fronts, backs, heads, links)
+    Codes { fronts, backs }.search(heads, links)
 }

@@ -1,7 +1,9 @@
 -- Entries of a chart: the number of each, and the entry with a given number.
-use Rattle.std.specs.Prelude.{ℕ, ◌+◌, ◌*◌, ◌/◌, ◌%◌, cond, List, [], ◌∷◌, Some, None, Option, ◌==◌}
+use Rattle.std.specs.Prelude.{ℕ, ◌+◌, ◌*◌, ◌/◌, ◌%◌, cond, List, [], ◌∷◌, ◌++◌, Some, None, Option, ◌==◌, codes, decimal}
 use Rattle.codes.specs.declared.entries.ChartEntry.{ChartEntry}
 use Rattle.codes.specs.declared.entries.Stroke.{Stroke}
+use Rattle.codes.specs.declared.entries.UnknownRods.{UnknownRods}
+use Rattle.codes.specs.declared.entries.UnknownStroke.{UnknownStroke}
 use Rattle.codes.specs.declared.entries.Stroke.TheVariants.{Randing, Slewing, Waling, Pairing, Fitching}
 use Rattle.codes.specs.declared.entries.Rods.{Rods}
 use Rattle.codes.specs.declared.entries.Rods.TheVariants.{One, Two, Three, Four, Five, Six, Seven, Eight, Nine, Ten, Eleven, Twelve, Thirteen, Fourteen, Fifteen}
@@ -50,6 +52,13 @@ stroke_of n = found stroke_number n strokes
 
 abbrev pub rods_of : ℕ → Option Rods
 rods_of n = found rods_number n all_rods
+
+-- That no stroke, or no case of rods, has a number, in words.
+abbrev pub no_stroke : UnknownStroke → List ℕ
+no_stroke e = codes "no stroke has the number " ++ decimal e.0
+
+abbrev pub no_rods : UnknownRods → List ℕ
+no_rods e = codes "no rods have the number " ++ decimal e.0
 
 -- The number of an entry: 16 × stroke + rods.
 abbrev pub entry_number : ChartEntry → ℕ

@@ -1,6 +1,6 @@
 -- Entries of a chart: no two have one number, and the entry made from a number has it.
 use Rattle.std.specs.Prelude.{◌≡◌, ℕ, ◌/◌, ◌%◌, ◌<◌, Bool, true, false, cond, List, [], ◌∷◌, Some, None, Decides, Option, ◌==◌, refl}
-use Rattle.std.proofs.Common.{sym, ap, ◌∙◌, arith}
+use Rattle.std.proofs.Common.{sym, ◌∙◌, arith}
 use Rattle.std.proofs.lemmas.Bool.Decides.{Decides-eqb}
 use Rattle.codes.specs.Makings.{MadeEntry}
 use Rattle.codes.specs.Entries.{stroke_number, rods_number, strokes, all_rods, found, stroke_of, rods_of, entry_number, both, chart_entry_of}
@@ -43,9 +43,7 @@ split e n h = (omega (arith, rods_below e.rods), omega (arith, rods_below e.rods
 
 own_entry : (e : ChartEntry) (n : ℕ) → entry_number e ≡ n → chart_entry_of n ≡ Some e
 own_entry e n h =
-    let s : stroke_of (n / 16) ≡ Some e.stroke = ap stroke_of (sym (split e n h).0) ∙ own_stroke e.stroke in
-    let r : rods_of (n % 16) ≡ Some e.rods = ap rods_of (sym (split e n h).1) ∙ own_rods e.rods in
-    ap (λ o. both o (rods_of (n % 16))) s ∙ ap (both (Some e.stroke)) r
+    rw (← (split e n h).0, ← (split e n h).1, own_stroke, own_rods)
 
 pub same_entry : (x y : ChartEntry) → entry_number x ≡ entry_number y → x ≡ y
 same_entry x y h =
@@ -72,7 +70,7 @@ right_both n (Some s) None p q = tt
 right_both n (Some s) (Some r) p q = omega arith
 
 made_as : (n : ℕ) (o : Option ChartEntry) → o ≡ chart_entry_of n → Right entry_number n o → MadeEntry entry_number n o
-made_as n None e h = λ x hx. let z : ◌≡◌ {A = Option ChartEntry} None (Some x) = e ∙ own_entry x n hx in let w : ◌≡◌ {A = ℕ} 0 1 = cc in omega arith
+made_as n None e h = λ x hx. cc (own_entry x n hx)
 made_as n (Some x) e h = h
 
 pub made_entry : (n : ℕ) → MadeEntry entry_number n (chart_entry_of n)

@@ -1,5 +1,5 @@
 -- Pattern codes: their two halves, and the pattern that has two given halves.
-use Rattle.std.specs.Prelude.{ℕ, ◌+◌, ◌*◌, ◌/◌, ◌%◌, ◌^◌, cond, ◌&&◌, Some, None, Option, nat_lt}
+use Rattle.std.specs.Prelude.{ℕ, ◌+◌, ◌*◌, ◌/◌, ◌%◌, ◌^◌, List, ◌++◌, cond, ◌&&◌, Some, None, Option, nat_lt, codes, decimal}
 use Rattle.std.proofs.Common.{lit<, mod-lt}
 use Rattle.codes.specs.declared.patterns.Pattern.{Pattern}
 
@@ -18,3 +18,7 @@ of_bits n = record { bits = n % 2 ^ 32; fits = mod-lt n (lit< tt) }
 -- The pattern with the halves f and b, if both are below 65,536.
 abbrev pub pattern_of : ℕ → ℕ → Option Pattern
 pattern_of f b = cond (nat_lt f 65536 && nat_lt b 65536) (Some (of_bits (f * 65536 + b))) None
+
+-- How a pattern is shown: FRONT.BACK.
+abbrev pub shown : Pattern → List ℕ
+shown p = decimal (upper p) ++ (codes "." ++ decimal (lower p))

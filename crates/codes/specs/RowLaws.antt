@@ -60,16 +60,13 @@ own_row x =
     (omega (arith, x.stake_fits))
 
 only_row : (f b : ℕ) (x : Row) → row_front x ≡ f → row_back x ≡ b → candidate f b ≡ x
-only_row f b x ef eb = ap (λ n. candidate n b) (sym ef) ∙ ap (candidate (row_front x)) (sym eb) ∙ own_row x
-
-never : {P : Type 0} → false ≡ true → P
-never e = absurd (let z : ◌≡◌ {A = ℕ} 0 1 = cc in omega arith)
+only_row f b x ef eb = rw (← ef, ← eb) (own_row x)
 
 checked : (w : Row) (f b : ℕ) → ((x : Row) → row_front x ≡ f → row_back x ≡ b → w ≡ x) → (p q : Bool) → Decides p (row_front w ≡ f) → Decides q (row_back w ≡ b) → MadeCode row_front row_back f b (cond (p && q) (Some w) None)
 checked w f b only true true P Q = (P.0 refl, Q.0 refl)
-checked w f b only true false P Q = λ x ef eb. never (Q.1 (ap row_back (only x ef eb) ∙ eb))
-checked w f b only false true P Q = λ x ef eb. never (P.1 (ap row_front (only x ef eb) ∙ ef))
-checked w f b only false false P Q = λ x ef eb. never (P.1 (ap row_front (only x ef eb) ∙ ef))
+checked w f b only true false P Q = λ x ef eb. cc (Q.1 (ap row_back (only x ef eb) ∙ eb))
+checked w f b only false true P Q = λ x ef eb. cc (P.1 (ap row_front (only x ef eb) ∙ ef))
+checked w f b only false false P Q = λ x ef eb. cc (P.1 (ap row_front (only x ef eb) ∙ ef))
 
 pub made_row : (f b : ℕ) → MadeCode row_front row_back f b (row_of f b)
 made_row f b =

@@ -1,7 +1,8 @@
 -- Rows of a chart: their two halves, and the row that has two given halves.
-use Rattle.std.specs.Prelude.{ℕ, ◌+◌, ◌*◌, ◌/◌, ◌%◌, ◌^◌, ◌<◌, Bool, true, false, cond, ◌&&◌, ℤ, pos, negsuc, Some, None, Option, ◌==◌, int_le, nat_le}
+use Rattle.std.specs.Prelude.{ℕ, ◌+◌, ◌*◌, ◌/◌, ◌%◌, ◌^◌, ◌<◌, Bool, true, false, cond, ◌&&◌, ℤ, pos, negsuc, List, ◌++◌, Some, None, Option, ◌==◌, int_le, nat_le, codes, decimal}
 use Rattle.std.proofs.Common.{lit<, mod-lt, arith}
 use Rattle.std.specs.Int.Signed.{mag}
+use Rattle.std.specs.Fmt.{signed_decimal}
 use Rattle.codes.specs.declared.rows.Row.{Row}
 
 -- A round as a natural number: 2 × round from 0, and −2 × round − 1 below (negsuc n is −n − 1).
@@ -56,3 +57,7 @@ candidate f b =
 -- The row with the halves f and b, if there is one: that row, if its halves are f and b.
 abbrev pub row_of : ℕ → ℕ → Option Row
 row_of f b = cond (row_front (candidate f b) == f && row_back (candidate f b) == b) (Some (candidate f b)) None
+
+-- How a row is shown: ROUND.STAKE.
+abbrev pub shown : Row → List ℕ
+shown w = signed_decimal w.round ++ (codes "." ++ decimal w.stake)

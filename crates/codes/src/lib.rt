@@ -12,8 +12,8 @@ mod shelves;
 #[cfg(test)]
 mod tests;
 
-pub use cells::Cell;
-pub use entries::{ChartEntry, Rods, Stroke};
+pub use cells::{Cell, OutOfRange};
+pub use entries::{ChartEntry, Rods, Stroke, UnknownRods, UnknownStroke};
 pub use patterns::Pattern;
 pub use rows::Row;
 pub use shelves::Shelf;
@@ -34,15 +34,14 @@ pub trait Code: Copy {
 }
 
 // A code that is kept in a file: its kind is the number that stands for its type there, and it is made again from its
-// halves.
+// halves. The kind is no enum, since any crate may add one.
 pub trait FiledCode: Code {
-    ghost kind_of: { ℕ };
+    const KIND: u32;
+
+    ghost KIND: { ℕ };
 
     // The code with these two halves, if there is one.
     ghost code_of: { ℕ → ℕ → Option Self };
-
-    fn kind() -> u32
-        ensures { result ≡ kind_of };
 
     fn from_halves(front: u32, back: u32) -> Option<Self>
         ensures { result ≡ code_of front back };
@@ -50,7 +49,8 @@ pub trait FiledCode: Code {
     ghost made: { (f b : ℕ) → MadeCode Self.Code.front_of Self.Code.back_of f b (code_of f b) };
 }
 
-// An entry that is kept in a file: it has a number, and is made again from it.
+// An entry that is kept in a file: it has a number, and is made again from it. These are methods and no `From` and
+// `TryFrom`, whose contracts relate a value to a result, where the laws below need the functions.
 pub trait FiledEntry: Copy {
     ghost number_of: { Self → ℕ };
 

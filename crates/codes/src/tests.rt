@@ -16,8 +16,8 @@ fn rounds_fold(rt: HostRuntime) {
 
 #[test]
 fn rows_out_of_range_are_no_cells(rt: HostRuntime) {
-    assert_eq!(rt; Cell::new(row(2048, 0)), None);
-    assert_eq!(rt; Cell::new(row(0, 512)), None);
+    assert_eq!(rt; Cell::try_from(row(2048, 0)).ok(), None);
+    assert_eq!(rt; Cell::try_from(row(0, 512)).ok(), None);
     assert_eq!(rt; row(2048, 0).front(), 4096 + 65_536);
     assert_eq!(rt; row(0, 512).front(), 65_536);
     assert_eq!(rt; Row::from_halves(4096 + 65_536, 0), Some(row(2048, 0)));
@@ -26,10 +26,10 @@ fn rows_out_of_range_are_no_cells(rt: HostRuntime) {
 
 #[test]
 fn cells_give_their_row_back(rt: HostRuntime) -> Result<(), Fail> {
-    let Some(cell) = Cell::new(row(-1, 511)) else {
+    let Ok(cell) = Cell::try_from(row(-1, 511)) else {
         return Err(Fail::new("no cell"));
     };
-    assert_eq!(rt; cell.row(), row(-1, 511));
+    assert_eq!(rt; Row::from(cell), row(-1, 511));
     assert_eq!(rt; (cell.front(), cell.back()), (1, 511));
     Ok(())
 }
@@ -56,4 +56,15 @@ fn patterns_have_halves(rt: HostRuntime) {
     assert_eq!(rt; Pattern::from_halves(3, 5), Some(pattern));
     assert_eq!(rt; Pattern::from_halves(65_536, 0), None);
     assert_eq!(rt; Pattern::from_halves(0, 65_536), None);
+}
+
+#[test]
+fn codes_are_shown(rt: HostRuntime) -> Result<(), Fail> {
+    let pattern = format!(in rt.alloc(); "{}", Pattern::new(3, 65_535))?;
+    assert!(rt; pattern.as_str() == "3.65535");
+    let before = format!(in rt.alloc(); "{}", row(-2, 7))?;
+    assert!(rt; before.as_str() == "-2.7");
+    let after = format!(in rt.alloc(); "{}", row(2047, 0))?;
+    assert!(rt; after.as_str() == "2047.0");
+    Ok(())
 }

@@ -1,18 +1,12 @@
 -- How a displacement grows bit by bit. Assumes nothing.
 use Rattle.std.proofs.Common.{◌≡◌, ℕ, ◌+◌, ◌-◌, ◌*◌, ◌^◌, ◌<◌, ◌≤◌, Bool, cond, ltb, List, sym, refl, ap, ◌∙◌, pow-suc, add-one, arith, pow_mono}
-use Rattle.std.proofs.lemmas.Bool.{cond_both, cond-false, le-ltb}
+use Rattle.std.proofs.lemmas.Bool.{cond_both}
 use Rattle.rule.specs.Choose.{count, pick, choose}
 use Rattle.rule.proofs.Halving.{choose_settled}
 use Rattle.displace.specs.Counts.{Counts, shown}
 use Rattle.displace.proofs.Counting.{shown_is}
 
 -- ---- bit by bit
--- where no pair is left, the bit stays clear
-pub pick-none : (k d : ℕ) (ms ys : List ℕ) → count (k + 1) d ms ys ≡ 0 → pick k d ms ys ≡ d
-unfolding pick
-pick-none k d ms ys none =
-    cond-false _ (d + 2 ^ k) d (le-ltb (count (k + 1) (d + 2 ^ k) ms ys) (count (k + 1) d ms ys) (omega arith))
-
 pub choose-more : (k : ℕ) (ms ys : List ℕ) → choose (k + 1) ms ys ≡ pick k (choose k ms ys) ms ys
 unfolding choose
 choose-more k ms ys = ap (λ n. choose n ms ys) (add-one k)

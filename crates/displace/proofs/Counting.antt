@@ -2,8 +2,10 @@
 use Rattle.std.proofs.Common.{◌≡◌, ℕ, zero, suc, ◌+◌, ◌*◌, ◌%◌, ◌^◌, ◌<◌, ◌≤◌, true, false, cond, eqb, ◌≢◌, List, [], ◌∷◌, ◌++◌, length, get_or, take, set, replicate, sym, refl, ap, ◌∙◌, ⊎_elim, not-suc-le-zero, add_assoc, mod-lt, mod-eq_of_lt, pow-suc, zero-add, add-one, arith, pow_pos, pow_mono}
 use native.Mathlib.Nat.{mod-mod}
 use lib.Bits.{bit_xor}
-use Rattle.std.proofs.lemmas.List.{length-set, get_or-set_same, get_or-set_other, take_more, length-replicate, get_or-replicate, map_more, length-append, length-map, length-take}
+use Rattle.std.proofs.lemmas.List.{length-set, get_or-set_same, get_or-set_other, length-replicate, get_or-replicate, map_more, length-append, length-map, length-take}
+use Rattle.std.proofs.lemmas.List.Sums.{sum_by-cons}
 use Rattle.std.proofs.lemmas.Bool.{cases_eq, eq-eqb, ne_eqb}
+use Rattle.std.proofs.lemmas.Bool.Decides.{nat_tests}
 use Rattle.rule.specs.Choose.{agree, alike, count}
 use Rattle.displace.specs.Counts.{Counts, Room, shown, results}
 
@@ -25,25 +27,15 @@ alike_le w a (y ∷ ys) =
     elim (agree w a y) as (λ b. cond b 1 0 + alike w a ys ≤ suc (length ys)) [ true ↦ omega arith | false ↦ omega arith ]
 
 -- ---- the pairs of a class
-shown-append : (w d : ℕ) (ms ns t : List ℕ) → shown w d (ms ++ ns) t ≡ shown w d ms t + shown w d ns t
-unfolding shown
-shown-append w d [] ns t = sym (zero-add (shown w d ns t))
-shown-append w d (m ∷ ms) ns t =
-    rw (shown-append w d ms ns t) (sym (add_assoc (get_or t (2 ^ w + bit_xor m d % 2 ^ w) 0) (shown w d ms t) (shown w d ns t)))
-
-pub shown-more : (w d : ℕ) (ms t : List ℕ) (i at : ℕ) → i < length ms → at ≡ 2 ^ w + bit_xor (get_or ms i 0) d % 2 ^ w
-    → shown w d (take (i + 1) ms) t ≡ shown w d (take i ms) t + get_or t at 0
-unfolding shown
-shown-more w d ms t i at h e = rw (e, take_more ms i 0 h, shown-append w d (take i ms) (get_or ms i 0 ∷ []) t) (omega arith)
-
 -- the counter of a number is that of its lowest bits
 looked : (r w x : ℕ) (ys t : List ℕ) → w ≤ r → Counts r ys t → get_or t (2 ^ w + x % 2 ^ w) 0 ≡ alike w x ys
 looked r w x ys t h k = k.each w (x % 2 ^ w) h (mod-lt x (pow_pos w)) ∙ alike-mod w x ys
 
 pub shown_is : (r w d : ℕ) (ms ys t : List ℕ) → w ≤ r → Counts r ys t → shown w d ms t ≡ count w d ms ys
-unfolding shown count
+unfolding count
 shown_is r w d [] ys t h k = refl
-shown_is r w d (m ∷ ms) ys t h k = rw (looked r w (bit_xor m d) ys t h k, shown_is r w d ms ys t h k)
+shown_is r w d (m ∷ ms) ys t h k =
+    sum_by-cons (λ x. get_or t (2 ^ w + bit_xor x d % 2 ^ w) 0) m ms ∙ rw (looked r w (bit_xor m d) ys t h k, shown_is r w d ms ys t h k)
 
 -- ---- one more result
 -- a counter that goes up by one
@@ -55,11 +47,7 @@ bumped t i j h =
     (cases_eq j i)
 
 eqb_shift : (a b c : ℕ) → eqb (a + b) (a + c) ≡ eqb b c
-eqb_shift a b c =
-    ⊎_elim {C = eqb (a + b) (a + c) ≡ eqb b c}
-    (λ e. eq-eqb (a + b) (a + c) (ap (λ n. a + n) e) ∙ sym (eq-eqb b c e))
-    (λ ne. ne_eqb (a + b) (a + c) (λ e. ne (omega arith)) ∙ sym (ne_eqb b c ne))
-    (cases_eq b c)
+eqb_shift a b c = grind (arith, nat_tests)
 
 -- the counters once a result y has been counted in the levels below k
 unfoldable pub entered : ℕ → ℕ → List ℕ → List ℕ
@@ -153,10 +141,7 @@ counts_moved r y xs ys t k =
           k.each w v h l ∙ rw (alike-append w v xs ys, alike-append w v (xs ++ y ∷ []) ys, alike-append w v xs (y ∷ [])) (omega arith);
     }
 
-pub entered_within : (r w at : ℕ) (s t : List ℕ) → at < 2 * 2 ^ w → w < r + 1 → length s ≡ length t → Room r 1 t → at < length s
-entered_within r w at s t h l e room = let p = pow_mono {i = w} {j = r} (omega arith) in omega (arith, room.1.long)
-
-pub entered_room : (r w y at : ℕ) (s t : List ℕ) → at ≡ 2 ^ w + y % 2 ^ w → w < r + 1 → s ≡ entered w y t → Room r 1 t → get_or s at 0 + 1 < 2 ^ 32
+pub entered_room : (r w y at : ℕ) (s t : List ℕ) → at ≡ 2 ^ w + y % 2 ^ w → w ≤ r → s ≡ entered w y t → Room r 1 t → get_or s at 0 + 1 < 2 ^ 32
 entered_room r w y at s t p h e room =
     let a : get_or s at 0 ≡ get_or (entered w y t) (2 ^ w + y % 2 ^ w) 0 = rw (p, e) in
     let b = entered_above w y t (2 ^ w + y % 2 ^ w) (omega arith) in

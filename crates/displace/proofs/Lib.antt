@@ -1,4 +1,4 @@
 pub mod Counting
 pub mod Choosing
 pub mod Linking
-pub mod Taking
+pub mod Passing

@@ -1,12 +1,12 @@
 -- What the chains of rows lead through. Assumes nothing.
-use Rattle.std.proofs.Common.{◌≡◌, ℕ, zero, suc, ◌+◌, ◌-◌, ◌<◌, ◌≤◌, true, false, cond, eqb, List, [], ◌∷◌, ◌++◌, length, get_or, take, drop, set, replicate, sym, refl, ap, ◌∙◌, subst, ⊎_elim, not-suc-le-zero, add-one, arith}
+use Rattle.std.proofs.Common.{◌≡◌, ℕ, zero, suc, ◌+◌, ◌-◌, ◌<◌, ◌≤◌, true, false, cond, eqb, List, [], ◌∷◌, ◌++◌, length, get_or, take, drop, set, replicate, sym, refl, ap, ◌∙◌, subst, ⊎_elim, add-one, arith}
 use Rattle.std.specs.List.{zip}
-use Rattle.std.proofs.lemmas.List.{append_assoc, append-nil, get_or-set_same, get_or-set_other, take_more, take_all, drop-set, drop_all, length-set, get_or-replicate, take_rest}
+use Rattle.std.proofs.lemmas.List.{append_assoc, append-nil, get_or-set_same, get_or-set_other, take_more, take_all, drop-set, drop_all, length-set, get_or-replicate}
 use Rattle.std.proofs.lemmas.Slice.Zip.{get_or-zip, length-zip}
 use Rattle.std.proofs.lemmas.Bool.{eq-eqb, ne_eqb, cases_eq, cond_both, cond-true}
 use Rattle.rule.specs.Round.{of_class}
 use Rattle.displace.specs.Columns.{class_of, moved_of, group_of}
-use Rattle.displace.specs.Rows.{last_of, Falls, Headed, Linked, Gathers}
+use Rattle.displace.specs.Rows.{last_of, Headed, Linked}
 
 -- ---- the last row of a class
 last_here : (class : List ℕ) (v i : ℕ) → get_or class i 0 ≡ v → last_of class v (i + 1) ≡ i + 1
@@ -50,17 +50,8 @@ headed_more class heads i h so v l =
     (λ ne. get_or-set_other heads (get_or class i 0) v (i + 1) 0 (λ e. ne (sym e)) ∙ so v l' ∙ sym (last_other class v i ne))
     (cases_eq (get_or class i 0) v)
 
-pub linked_none : (class links : List ℕ) → Linked class 0 links
-linked_none class links i h = absurd (not-suc-le-zero h)
-
-pub linked_more : (class links : List ℕ) (i x : ℕ) → i < length links → x ≡ last_of class (get_or class i 0) i → Linked class i links → Linked class (i + 1) (set links i x)
-linked_more class links i x h e so j l =
-    ⊎_elim {C = get_or (set links i x) j 0 ≡ last_of class (get_or class j 0) j}
-    (λ same. subst (λ (k : ℕ). get_or (set links i x) k 0 ≡ last_of class (get_or class k 0) k) (sym same) (get_or-set_same links i x 0 h ∙ e))
-    (λ other. get_or-set_other links i j x 0 other ∙ so j (omega arith))
-    (cases_eq j i)
-
-pub linked_falls : (class links : List ℕ) → length links ≡ length class → Linked class (length class) links → Falls links
+-- every row leads to an earlier one
+pub linked_falls : (class links : List ℕ) → length links ≡ length class → Linked class (length class) links → (i : ℕ) → i < length links → get_or links i 0 ≤ i
 linked_falls class links e so i h = let a = so i (omega arith) in let b = last_le class (get_or class i 0) i in omega arith
 
 pub headed_within : (class heads : List ℕ) (n v : ℕ) → v < length heads → Headed class n heads → get_or heads v 0 ≤ n
@@ -141,8 +132,3 @@ module _ (class moved : List ℕ) (v : ℕ) (long : length class ≡ length move
   walked_all row tail e so =
       let none : row ≡ 0 = omega arith in
       subst (λ (n : ℕ). rows class moved v n ++ tail ≡ group_of v class moved) none so.whole
-
--- what is gathered from the last row of class v, as the part of the list that the code reads
-pub gathered : (class moved heads links group : List ℕ) (v start : ℕ) → length moved ≡ length class → v < length heads → Headed class (length class) heads
-    → Linked class (length class) links → Gathers (get_or heads v 0) moved links start group → take (length group - start) (drop start group) ≡ group_of v class moved
-gathered class moved heads links group v start long h headed linked gathers = take_rest group start ∙ gathers class v (sym long) linked (headed v h)

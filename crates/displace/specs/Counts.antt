@@ -1,5 +1,5 @@
 -- Counters of the results so far, by their lowest bits. Assumes nothing.
-use Rattle.std.specs.Prelude.{◌≡◌, ℕ, ◌+◌, ◌*◌, ◌%◌, ◌^◌, ◌<◌, ◌≤◌, List, [], ◌∷◌, ◌++◌, map, length, bit_xor, slice_index}
+use Rattle.std.specs.Prelude.{◌≡◌, ℕ, ◌+◌, ◌*◌, ◌%◌, ◌^◌, ◌<◌, ◌≤◌, List, ◌++◌, map, length, sum_by, bit_xor, slice_index}
 use Rattle.rule.specs.Choose.{alike, choose}
 
 -- the counters count the results ys: index 2 ^ w + v has how many agree with v in their lowest w bits
@@ -12,9 +12,8 @@ abbrev pub Room : ℕ → ℕ → List ℕ → Type 0
 Room r n counters = (ys : List ℕ) × Counts r ys counters × (length ys + n < 2 ^ 32)
 
 -- the pairs that the counters show in w bits: for each member, displaced by d, the counter of its lowest bits
-unfoldable pub shown : ℕ → ℕ → List ℕ → List ℕ → ℕ
-shown w d [] counters = 0
-shown w d (m ∷ ms) counters = slice_index counters (2 ^ w + bit_xor m d % 2 ^ w) + shown w d ms counters
+abbrev pub shown : ℕ → ℕ → List ℕ → List ℕ → ℕ
+shown w d ms counters = sum_by (λ m. slice_index counters (2 ^ w + bit_xor m d % 2 ^ w)) ms
 
 -- the results of a class whose moved numbers are ms, at the displacement d
 abbrev pub results : ℕ → List ℕ → List ℕ

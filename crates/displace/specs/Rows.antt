@@ -1,6 +1,5 @@
 -- The rows of each class, linked from the last one to the first. A row is told by one more than its number. Assumes nothing.
-use Rattle.std.specs.Prelude.{◌≡◌, ℕ, zero, suc, ◌<◌, ◌≤◌, cond, List, length, drop, ◌==◌, slice_index}
-use Rattle.displace.specs.Columns.{group_of}
+use Rattle.std.specs.Prelude.{◌≡◌, ℕ, zero, suc, ◌<◌, cond, List, length, ◌==◌, slice_index}
 
 -- one more than the last row below i whose class is v, or 0
 unfoldable pub last_of : List ℕ → ℕ → ℕ → ℕ
@@ -14,12 +13,3 @@ Headed class n heads = (v : ℕ) → v < length heads → slice_index heads v �
 -- each of the first n rows leads to the one before it of the same class
 abbrev pub Linked : List ℕ → ℕ → List ℕ → Type 0
 Linked class n links = (i : ℕ) → i < n → slice_index links i ≡ last_of class (slice_index class i) i
-
--- every row leads to an earlier one
-abbrev pub Falls : List ℕ → Type 0
-Falls links = (i : ℕ) → i < length links → slice_index links i ≤ i
-
--- from start on, group holds the moved numbers of the class whose last row is given, whatever column the links are of
-abbrev pub Gathers : ℕ → List ℕ → List ℕ → ℕ → List ℕ → Type 0
-Gathers last moved links start group =
-    (class : List ℕ) (v : ℕ) → length class ≡ length moved → Linked class (length class) links → last ≡ last_of class v (length class) → drop start group ≡ group_of v class moved

@@ -2,41 +2,42 @@
 #![tactic(auto)]
 
 ghost use Rattle.std.specs.Prelude.{◌≡◌, Some, Decides};
-ghost use Rattle.fault.specs.Table.{number_of, layer_of, letter_of, list_part, displacements_part, half_part, made_part, part_of, spot_of, has_same_numbers, NumbersTell};
-ghost use Rattle.fault.specs.Words.{short_list, large_half_of, large_displacement, not_made, before_spot_of, after_spot_of, in_words, as_refused};
+ghost use Rattle.fault.specs.Table.{number_of, layer_of, letter_of, part_of, spot_of, has_same_numbers, NumbersTell};
+ghost use Rattle.fault.specs.Words.{in_words, as_refused};
 ghost use Rattle.std.specs.Cmp.Rules.{comparing};
 ghost use Rattle.std.proofs.Common.{rules};
 ghost use Rattle.std.specs.Cmp as Keys;
 
+use std::error::Error;
 use std::fmt;
 
 // One of the lists that a call is lent.
 #[derive(Clone, Copy, PartialEq, Eq, Debug)]
 pub enum List {
-    First,
+    First = 1,
     Second,
     Slots,
     Work,
 }
 
-// One of the two lists of displacements.
+// One of the two lists of displacements. Not `List`: no refusal of a displacement can name the slots or the work list.
 #[derive(Clone, Copy, PartialEq, Eq, Debug)]
 pub enum Displacements {
-    First,
+    First = 1,
     Second,
 }
 
 // One of the two numbers that a code stands for.
 #[derive(Clone, Copy, PartialEq, Eq, Debug)]
 pub enum Half {
-    Front,
+    Front = 1,
     Back,
 }
 
 // What a file's numbers are made into.
 #[derive(Clone, Copy, PartialEq, Eq, Debug)]
 pub enum Made {
-    Code,
+    Code = 1,
     Entry,
 }
 
@@ -98,27 +99,24 @@ impl Fault {
         ensures { result ≡ number_of self }
     {
         match self {
-            Fault::HalfWidth { r: _ } => 1,
-            Fault::ShortList { list: _, len: _ } => 2,
+            Fault::HalfWidth { .. } => 1,
+            Fault::ShortList { .. } => 2,
             Fault::NoMembers => 3,
-            Fault::TooManyMembers { members: _ } => 4,
-            Fault::LargeHalf {
-                half: _,
-                position: _,
-            } => 5,
-            Fault::RepeatedCode { position: _ } => 6,
-            Fault::LargeDisplacement { list: _, index: _ } => 7,
-            Fault::NotFound { place: _ } => 8,
-            Fault::Found { place: _ } => 9,
-            Fault::PlaceTaken { place: _ } => 10,
-            Fault::Misplaced { slot: _ } => 11,
-            Fault::ShortOutput { needed: _ } => 12,
-            Fault::EndOfBytes { len: _ } => 13,
-            Fault::MalformedNumber { offset: _ } => 14,
-            Fault::OutOfRange { offset: _ } => 15,
-            Fault::NotMade { made: _, offset: _ } => 16,
-            Fault::PlaceNotRising { offset: _ } => 17,
-            Fault::BytesLeft { offset: _ } => 18,
+            Fault::TooManyMembers { .. } => 4,
+            Fault::LargeHalf { .. } => 5,
+            Fault::RepeatedCode { .. } => 6,
+            Fault::LargeDisplacement { .. } => 7,
+            Fault::NotFound { .. } => 8,
+            Fault::Found { .. } => 9,
+            Fault::PlaceTaken { .. } => 10,
+            Fault::Misplaced { .. } => 11,
+            Fault::ShortOutput { .. } => 12,
+            Fault::EndOfBytes { .. } => 13,
+            Fault::MalformedNumber { .. } => 14,
+            Fault::OutOfRange { .. } => 15,
+            Fault::NotMade { .. } => 16,
+            Fault::PlaceNotRising { .. } => 17,
+            Fault::BytesLeft { .. } => 18,
         }
     }
 
@@ -127,27 +125,18 @@ impl Fault {
         ensures { result ≡ layer_of self }
     {
         match self {
-            Fault::HalfWidth { r: _ } => Layer::Lists,
-            Fault::ShortList { list: _, len: _ } => Layer::Lists,
-            Fault::NoMembers => Layer::Build,
-            Fault::TooManyMembers { members: _ } => Layer::Build,
-            Fault::LargeHalf {
-                half: _,
-                position: _,
-            } => Layer::Kinds,
-            Fault::RepeatedCode { position: _ } => Layer::Build,
-            Fault::LargeDisplacement { list: _, index: _ } => Layer::Lists,
-            Fault::NotFound { place: _ } => Layer::Slots,
-            Fault::Found { place: _ } => Layer::Slots,
-            Fault::PlaceTaken { place: _ } => Layer::Slots,
-            Fault::Misplaced { slot: _ } => Layer::File,
-            Fault::ShortOutput { needed: _ } => Layer::File,
-            Fault::EndOfBytes { len: _ } => Layer::Groups,
-            Fault::MalformedNumber { offset: _ } => Layer::Groups,
-            Fault::OutOfRange { offset: _ } => Layer::File,
-            Fault::NotMade { made: _, offset: _ } => Layer::Kinds,
-            Fault::PlaceNotRising { offset: _ } => Layer::File,
-            Fault::BytesLeft { offset: _ } => Layer::File,
+            Fault::EndOfBytes { .. } | Fault::MalformedNumber { .. } => Layer::Groups,
+            Fault::LargeHalf { .. } | Fault::NotMade { .. } => Layer::Kinds,
+            Fault::HalfWidth { .. } | Fault::ShortList { .. } | Fault::LargeDisplacement { .. } =>
+                Layer::Lists,
+            Fault::NoMembers | Fault::TooManyMembers { .. } | Fault::RepeatedCode { .. } =>
+                Layer::Build,
+            Fault::NotFound { .. } | Fault::Found { .. } | Fault::PlaceTaken { .. } => Layer::Slots,
+            Fault::Misplaced { .. }
+            | Fault::ShortOutput { .. }
+            | Fault::OutOfRange { .. }
+            | Fault::PlaceNotRising { .. }
+            | Fault::BytesLeft { .. } => Layer::File,
         }
     }
 
@@ -156,10 +145,10 @@ impl Fault {
         ensures { result ≡ part_of self }
     {
         match self {
-            Fault::ShortList { list, len: _ } => list.part(),
-            Fault::LargeHalf { half, position: _ } => half.part(),
-            Fault::LargeDisplacement { list, index: _ } => list.part(),
-            Fault::NotMade { made, offset: _ } => made.part(),
+            Fault::ShortList { list, .. } => list as u32,
+            Fault::LargeHalf { half, .. } => half as u32,
+            Fault::LargeDisplacement { list, .. } => list as u32,
+            Fault::NotMade { made, .. } => made as u32,
             _ => 0,
         }
     }
@@ -169,156 +158,24 @@ impl Fault {
         ensures { result ≡ spot_of self }
     {
         match self {
-            Fault::HalfWidth { r } => r as u64,
-            Fault::ShortList { list: _, len } => len as u64,
+            Fault::HalfWidth { r } => u64::from(r),
             Fault::NoMembers => 0,
-            Fault::TooManyMembers { members } => members as u64,
-            Fault::LargeHalf { half: _, position } => position as u64,
-            Fault::RepeatedCode { position } => position as u64,
-            Fault::LargeDisplacement { list: _, index } => index as u64,
-            Fault::NotFound { place } => place as u64,
-            Fault::Found { place } => place as u64,
-            Fault::PlaceTaken { place } => place as u64,
-            Fault::Misplaced { slot } => slot as u64,
-            Fault::ShortOutput { needed } => needed as u64,
-            Fault::EndOfBytes { len } => len as u64,
-            Fault::MalformedNumber { offset } => offset as u64,
-            Fault::OutOfRange { offset } => offset as u64,
-            Fault::NotMade { made: _, offset } => offset as u64,
-            Fault::PlaceNotRising { offset } => offset as u64,
-            Fault::BytesLeft { offset } => offset as u64,
-        }
-    }
-
-    // The words for people, up to the spot.
-    fn before_spot(self) -> &'static str
-        ensures { result.now ≡ before_spot_of self }
-    {
-        match self {
-            Fault::HalfWidth { r: _ } => "the half width is not in 4 to 16: ",
-            Fault::ShortList { list, len: _ } => list.too_short(),
-            Fault::NoMembers => "there are too few members: ",
-            Fault::TooManyMembers { members: _ } =>
-                "there are too many members for the half width: ",
-            Fault::LargeHalf { half, position: _ } => half.too_large(),
-            Fault::RepeatedCode { position: _ } => "the code came before: position ",
-            Fault::LargeDisplacement { list, index: _ } => list.too_large(),
-            Fault::NotFound { place: _ } => "the code is not there: place ",
-            Fault::Found { place: _ } => "the code is there already: place ",
-            Fault::PlaceTaken { place: _ } => "another code has the place: place ",
-            Fault::Misplaced { slot: _ } => "the slot holds a code that belongs elsewhere: slot ",
-            Fault::ShortOutput { needed: _ } => "the output is too short: needed are ",
-            Fault::EndOfBytes { len: _ } => "the bytes end too early: there are ",
-            Fault::MalformedNumber { offset: _ } =>
-                "the number is too large or not in its shortest form: byte ",
-            Fault::OutOfRange { offset: _ } => "the number is out of its range: byte ",
-            Fault::NotMade { made, offset: _ } => made.none(),
-            Fault::PlaceNotRising { offset: _ } => "the place is not above the one before: byte ",
-            Fault::BytesLeft { offset: _ } => "bytes are left over: byte ",
-        }
-    }
-
-    // What the spot counts, where it is a number of things.
-    fn after_spot(self) -> &'static str
-        ensures { result.now ≡ after_spot_of self }
-    {
-        match self {
-            Fault::ShortList { list: _, len: _ } => " elements",
-            Fault::ShortOutput { needed: _ } => " bytes",
-            Fault::EndOfBytes { len: _ } => " bytes",
-            _ => "",
-        }
-    }
-}
-
-impl List {
-    // The list's number, from 1, in the order in which calls take them.
-    fn part(self) -> u32
-        ensures { result ≡ list_part self }
-    {
-        match self {
-            List::First => 1,
-            List::Second => 2,
-            List::Slots => 3,
-            List::Work => 4,
-        }
-    }
-
-    // That the list is too short, in words.
-    fn too_short(self) -> &'static str
-        ensures { result.now ≡ short_list self }
-    {
-        match self {
-            List::First => "list 1 is too short: ",
-            List::Second => "list 2 is too short: ",
-            List::Slots => "list 3 is too short: ",
-            List::Work => "list 4 is too short: ",
-        }
-    }
-}
-
-impl Displacements {
-    // The list's number, 1 or 2.
-    fn part(self) -> u32
-        ensures { result ≡ displacements_part self }
-    {
-        match self {
-            Displacements::First => 1,
-            Displacements::Second => 2,
-        }
-    }
-
-    // That the list holds too large a displacement, in words.
-    fn too_large(self) -> &'static str
-        ensures { result.now ≡ large_displacement self }
-    {
-        match self {
-            Displacements::First => "list 1 holds too large a displacement: index ",
-            Displacements::Second => "list 2 holds too large a displacement: index ",
-        }
-    }
-}
-
-impl Half {
-    // 1 for the front half, 2 for the back half.
-    fn part(self) -> u32
-        ensures { result ≡ half_part self }
-    {
-        match self {
-            Half::Front => 1,
-            Half::Back => 2,
-        }
-    }
-
-    // That the half is too large, in words.
-    fn too_large(self) -> &'static str
-        ensures { result.now ≡ large_half_of self }
-    {
-        match self {
-            Half::Front => "the front half is too large for the half width: position ",
-            Half::Back => "the back half is too large for the half width: position ",
-        }
-    }
-}
-
-impl Made {
-    // 1 for a code, 2 for an entry.
-    fn part(self) -> u32
-        ensures { result ≡ made_part self }
-    {
-        match self {
-            Made::Code => 1,
-            Made::Entry => 2,
-        }
-    }
-
-    // That there is none, in words.
-    fn none(self) -> &'static str
-        ensures { result.now ≡ not_made self }
-    {
-        match self {
-            Made::Code => "no code has these halves: byte ",
-            Made::Entry => "no entry has this number: byte ",
+            Fault::ShortList { len: spot, .. }
+            | Fault::TooManyMembers { members: spot }
+            | Fault::LargeHalf { position: spot, .. }
+            | Fault::RepeatedCode { position: spot }
+            | Fault::LargeDisplacement { index: spot, .. }
+            | Fault::NotFound { place: spot }
+            | Fault::Found { place: spot }
+            | Fault::PlaceTaken { place: spot }
+            | Fault::Misplaced { slot: spot }
+            | Fault::ShortOutput { needed: spot }
+            | Fault::EndOfBytes { len: spot }
+            | Fault::MalformedNumber { offset: spot }
+            | Fault::OutOfRange { offset: spot }
+            | Fault::NotMade { offset: spot, .. }
+            | Fault::PlaceNotRising { offset: spot }
+            | Fault::BytesLeft { offset: spot } => spot as u64,
         }
     }
 }
@@ -339,7 +196,7 @@ impl Layer {
     }
 }
 
-// Number, part and spot tell a refusal whole.
+// Number, part and spot tell a refusal whole. Not derived: a derive has no clause, and one that skips a field would pass.
 impl PartialEq for Fault {
     ghost eq = { has_same_numbers };
 
@@ -365,15 +222,81 @@ impl fmt::Display for Fault {
     ghost output = { λ f. Some (in_words f) };
 
     fn fmt<W: fmt::Write>(&self, f: &mut fmt::Formatter<W>) -> fmt::Result {
-        write!(
-            f,
-            "{}{}{}",
-            self.before_spot(),
-            self.spot(),
-            self.after_spot()
-        )
+        match *self {
+            Fault::HalfWidth { r } => write!(f, "the half width is not in 4 to 16: {r}"),
+            Fault::ShortList { len, .. } => {
+                write!(f, "list {} is too short: {len} elements", self.part())
+            }
+            Fault::NoMembers => write!(f, "there are too few members: {}", self.spot()),
+            Fault::TooManyMembers { members } => {
+                write!(
+                    f,
+                    "there are too many members for the half width: {members}"
+                )
+            }
+            Fault::LargeHalf {
+                half: Half::Front,
+                position,
+            } => write!(
+                f,
+                "the front half is too large for the half width: position {position}"
+            ),
+            Fault::LargeHalf {
+                half: Half::Back,
+                position,
+            } => write!(
+                f,
+                "the back half is too large for the half width: position {position}"
+            ),
+            Fault::RepeatedCode { position } => {
+                write!(f, "the code came before: position {position}")
+            }
+            Fault::LargeDisplacement { index, .. } => write!(
+                f,
+                "list {} holds too large a displacement: index {index}",
+                self.part()
+            ),
+            Fault::NotFound { place } => write!(f, "the code is not there: place {place}"),
+            Fault::Found { place } => write!(f, "the code is there already: place {place}"),
+            Fault::PlaceTaken { place } => {
+                write!(f, "another code has the place: place {place}")
+            }
+            Fault::Misplaced { slot } => {
+                write!(
+                    f,
+                    "the slot holds a code that belongs elsewhere: slot {slot}"
+                )
+            }
+            Fault::ShortOutput { needed } => {
+                write!(f, "the output is too short: needed are {needed} bytes")
+            }
+            Fault::EndOfBytes { len } => {
+                write!(f, "the bytes end too early: there are {len} bytes")
+            }
+            Fault::MalformedNumber { offset } => write!(
+                f,
+                "the number is too large or not in its shortest form: byte {offset}"
+            ),
+            Fault::OutOfRange { offset } => {
+                write!(f, "the number is out of its range: byte {offset}")
+            }
+            Fault::NotMade {
+                made: Made::Code,
+                offset,
+            } => { write!(f, "no code has these halves: byte {offset}") }
+            Fault::NotMade {
+                made: Made::Entry,
+                offset,
+            } => { write!(f, "no entry has this number: byte {offset}") }
+            Fault::PlaceNotRising { offset } => {
+                write!(f, "the place is not above the one before: byte {offset}")
+            }
+            Fault::BytesLeft { offset } => write!(f, "bytes are left over: byte {offset}"),
+        }
     }
 }
+
+impl Error for Fault {}
 
 // The line that a program prints of a refusal: `refused NUMBER PART SPOT`.
 #[derive(Clone, Copy, Debug)]

@@ -1,8 +1,9 @@
 -- Slots that mirror a ledger, and that they go on to do so when a slot is written. Assumes nothing.
-use Rattle.std.proofs.Common.{◌≡◌, ℕ, ◌+◌, ◌^◌, ◌<◌, Bool, true, false, cond, ◌&&◌, List, length, take, set, Some, None, Option, sym, ap, ◌∙◌, subst, ⊎_elim, arith}
+use Rattle.std.proofs.Common.{◌≡◌, ℕ, ◌+◌, ◌^◌, ◌<◌, true, false, cond, List, length, take, set, Some, None, Option, sym, ap, ◌∙◌, subst, ⊎_elim, arith}
 use Rattle.std.specs.List.{slice_get}
 use Rattle.std.proofs.lemmas.List.{length-set}
-use Rattle.std.proofs.lemmas.Bool.{cases_Bool, cases_eq, cond-false, and_right}
+use Rattle.std.proofs.lemmas.Bool.Decides.{nat_tests}
+use Rattle.std.proofs.lemmas.Bool.{cases_Bool, cases_eq}
 use Rattle.rule.specs.Places.{Fit, Distinct}
 use Rattle.slots.specs.declared.Slot.{Slot}
 use Rattle.slots.specs.Calls.{holds_code}
@@ -29,13 +30,9 @@ module _ {C V : Type 0} (front_of back_of : C → ℕ) (r : ℕ) (first second :
 
 -- a slot that holds a code holds no other
 pub hold_other : {C V : Type 0} (front_of back_of : C → ℕ) (code other : C) (slot : Slot C V) → (slot.full ≡ true → slot.code ≡ code) → same_code front_of back_of code other ≡ false → hold front_of back_of (Some slot) other ≡ None
-hold_other front_of back_of code other slot own ne =
-    ⊎_elim {C = hold front_of back_of (Some slot) other ≡ None}
-    (λ full. cond-false _ _ _ (and_right slot.full _ (ap (λ (x : _). same_code front_of back_of x other) (own full) ∙ ne)))
-    (λ empty. ap (λ (b : Bool). cond (b && same_code front_of back_of slot.code other) (Some slot.entry) None) empty)
-    (cases_Bool slot.full)
+hold_other front_of back_of code other slot own ne = grind (arith, nat_tests)
 
-module _ {C V : Type 0} (front_of back_of : C → ℕ) (law : (x y : C) → front_of x ≡ front_of y → back_of x ≡ back_of y → x ≡ y) (r : ℕ) (first second : List ℕ) (slots : List (Slot C V)) (ledger : List (Member C V)) (mirrors : Mirrors front_of back_of r first second slots ledger)
+module _ {C V : Type 0} {front_of back_of : C → ℕ} (law : (x y : C) → front_of x ≡ front_of y → back_of x ≡ back_of y → x ≡ y) {r : ℕ} {first second : List ℕ} {slots : List (Slot C V)} {ledger : List (Member C V)} (mirrors : Mirrors front_of back_of r first second slots ledger)
     (code : C) (front_fits : front_of code < 2 ^ r) (back_fits : back_of code < 2 ^ r) (old new : Slot C V) (is : slice_get slots (place_for front_of back_of first second code) ≡ Some old) where
   -- the code's slot is written, with the code or empty, and the ledger changes as much
   module _ (own : new.full ≡ true → new.code ≡ code) where
@@ -43,7 +40,7 @@ module _ {C V : Type 0} (front_of back_of : C → ℕ) (law : (x y : C) → fron
     home_kept place slot h at full =
         ⊎_elim {C = AtHome front_of back_of r first second place slot}
         (λ here.
-        let room : place_for front_of back_of first second code < length slots = omega (arith, mirrors.sound.slots_long, place_fits front_of back_of r first second slots mirrors.sound (front_of code) (back_of code) front_fits back_fits) in
+        let room : place_for front_of back_of first second code < length slots = omega (arith, mirrors.sound.slots_long, place_fits mirrors.sound (front_of code) (back_of code) front_fits back_fits) in
         let written : Some new ≡ Some slot = sym (nth_set-same slots (place_for front_of back_of first second code) new room) ∙ ap (slice_get (set slots (place_for front_of back_of first second code) new)) (sym here) ∙ at in
         let same : new ≡ slot = cc in
         let code_is : slot.code ≡ code = ap (λ (s : Slot C V). s.code) (sym same) ∙ own (ap (λ (s : Slot C V). s.full) same ∙ full) in
@@ -75,7 +72,7 @@ module _ {C V : Type 0} (front_of back_of : C → ℕ) (law : (x y : C) → fron
       same_kept : (other : C) → front_of other < 2 ^ r → back_of other < 2 ^ r → hold front_of back_of (slice_get (set slots (place_for front_of back_of first second code) new) (place_for front_of back_of first second other)) other ≡ entry_in front_of back_of ledger' other
       same_kept other f b =
           let place = place_for front_of back_of first second in
-          let room : place_for front_of back_of first second code < length slots = omega (arith, mirrors.sound.slots_long, place_fits front_of back_of r first second slots mirrors.sound (front_of code) (back_of code) front_fits back_fits) in
+          let room : place_for front_of back_of first second code < length slots = omega (arith, mirrors.sound.slots_long, place_fits mirrors.sound (front_of code) (back_of code) front_fits back_fits) in
           let here = nth_set-same slots (place code) new room in
           ⊎_elim {C = hold front_of back_of (slice_get (set slots (place_for front_of back_of first second code) new) (place_for front_of back_of first second other)) other ≡ entry_in front_of back_of ledger' other}
           (λ same.
@@ -101,6 +98,6 @@ module _ {C V : Type 0} (front_of back_of : C → ℕ) (law : (x y : C) → fron
       pub write_keeps : Fit (half front_of) (half back_of) r ledger' → Distinct (half front_of) (half back_of) ledger' → length ledger' + cond old.full 1 0 ≡ length ledger + cond new.full 1 0
           → Mirrors front_of back_of r first second (set slots (place_for front_of back_of first second code) new) ledger'
       write_keeps fit distinct balance =
-          let within = place_fits front_of back_of r first second slots mirrors.sound (front_of code) (back_of code) front_fits back_fits in
+          let within = place_fits mirrors.sound (front_of code) (back_of code) front_fits back_fits in
           let counted = count_set (λ (s : Slot C V). s.full) (2 ^ r) slots (place_for front_of back_of first second code) old new within is in
           record { sound = sound_kept; fit = fit; distinct = distinct; same = same_kept; number = omega (arith, mirrors.number) }

@@ -28,7 +28,7 @@ then_refuse false f x next = refl
 size_is : (r first second slots : ℕ) → 4 ≤ r → r ≤ 16 → 2 ^ r ≤ first → 2 ^ r ≤ second → 2 ^ r ≤ slots → checked_size_of r first second slots ≡ Ok (2 ^ r)
 size_is r first second slots low high a b d = grind (arith, nat_tests)
 
-module _ {C V : Type 0} (front_of back_of : C → ℕ) (r : ℕ) (first second : List ℕ) (slots : List (Slot C V)) (sound : Sound front_of back_of r first second slots) where
+module _ {C V : Type 0} {front_of back_of : C → ℕ} {r : ℕ} {first second : List ℕ} {slots : List (Slot C V)} (sound : Sound front_of back_of r first second slots) where
   -- the first place of a code that fits, and its place
   pub first_place_fits : (front back : ℕ) → front < 2 ^ r → back < 2 ^ r → first_place_of first front back < 2 ^ r
   first_place_fits front back f b = xor_lt r back (get_or first front 0) b (sound.first_below front f)

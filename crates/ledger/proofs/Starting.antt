@@ -21,9 +21,10 @@ use Rattle.build.proofs.Written.{length-emptied, emptied_here, length-slots, slo
 use Rattle.ledger.specs.Ledger.{same_code, place_for, entry_in}
 use Rattle.ledger.specs.Law.{full_count, AtHome, Sound}
 use Rattle.ledger.proofs.Elements.{nth_some, nth_set_other, count_set}
-use Rattle.ledger.proofs.Entries.{same_halves, none-same}
+use Rattle.ledger.proofs.Entries.{entry_here, entry_behind, same_halves, none-same}
 use Rattle.ledger.proofs.Placing.{place_fits}
 use Rattle.ledger.proofs.Mirror.{hold, Mirrors}
+use Rattle.ledger.proofs.Stepping.{each_both}
 
 -- ---- how many slots are full
 module _ {C V : Type 0} where
@@ -48,12 +49,9 @@ module _ {C V : Type 0} where
     filled-count (m ∷ ms) slots apart within empty =
         let one = count_set (λ (s : Slot C V). s.full) n slots (at m) empty.0.0 (slot_of m) within.0 empty.0.1 in
         let mark : cond {A = ℕ} empty.0.0.full 1 0 ≡ 0 = ap (λ (b : Bool). cond {A = ℕ} b 1 0) empty.0.2 in
-        let rest = filled-count ms (set slots (at m) (slot_of m)) apart.1 within.1 (each_two (λ y e k. (e.0, nth_set_other slots (at m) (at y) (slot_of m) (λ same. k (sym same)) ∙ e.1, e.2)) ms empty.1 apart.0) in
+        let kept : Each (λ y. (slot : Slot C V) × (slice_get (set slots (at m) (slot_of m)) (at y) ≡ Some slot) × (slot.full ≡ false)) ms = each_with (λ y both. (both.0.0, nth_set_other slots (at m) (at y) (slot_of m) (λ same. both.1 (sym same)) ∙ both.0.1, both.0.2)) ms (each_both _ _ ms empty.1 apart.0) in
+        let rest = filled-count ms (set slots (at m) (slot_of m)) apart.1 within.1 kept in
         omega arith
-      where
-        each_two : {P Q R : Member C V → Type 0} → ((y : Member C V) → P y → Q y → R y) → (xs : List (Member C V)) → Each P xs → Each Q xs → Each R xs
-        each_two f [] p q = tt
-        each_two f (x ∷ xs) p q = (f x p.0 q.0, each_two f xs p.1 q.1)
 
 -- a code is in the ledger as a member, or is not there
 entry_cases : {C V : Type 0} (front_of back_of : C → ℕ) (ms : List (Member C V)) (code : C)
@@ -62,11 +60,11 @@ unfolding entry_in
 entry_cases front_of back_of [] code = inr refl
 entry_cases {C} {V} front_of back_of (m ∷ ms) code =
     ⊎_elim {C = ((x : Member C V) × Has (m ∷ ms) x × (same_code front_of back_of x.code code ≡ true) × (entry_in front_of back_of (m ∷ ms) code ≡ Some x.entry)) ⊎ (entry_in front_of back_of (m ∷ ms) code ≡ None)}
-    (λ same. inl (m, (0, omega arith, λ d. refl), same, cond-true _ _ _ same))
+    (λ same. inl (m, (0, omega arith, λ d. refl), same, entry_here front_of back_of m ms code same))
     (λ ne.
     ⊎_elim {C = ((x : Member C V) × Has (m ∷ ms) x × (same_code front_of back_of x.code code ≡ true) × (entry_in front_of back_of (m ∷ ms) code ≡ Some x.entry)) ⊎ (entry_in front_of back_of (m ∷ ms) code ≡ None)}
-    (λ found. inl (found.0, (suc found.1.0, omega (arith, found.1.1), found.1.2), found.2, cond-false _ _ _ ne ∙ found.3))
-    (λ none. inr (cond-false _ _ _ ne ∙ none))
+    (λ found. inl (found.0, (suc found.1.0, omega (arith, found.1.1), found.1.2), found.2, entry_behind front_of back_of m ms code ne ∙ found.3))
+    (λ none. inr (entry_behind front_of back_of m ms code ne ∙ none))
     (entry_cases front_of back_of ms code))
     (cases_Bool (same_code front_of back_of m.code code))
 
@@ -153,7 +151,7 @@ module _ {C V : Type 0} (front_of back_of : C → ℕ) (law : (x y : C) → fron
       let there : Some (slot_of m) ≡ Some slot = sym (slot_here m found.1) ∙ ap (slice_get T) found.2 ∙ is in
       let same : slot_of m ≡ slot = cc in
       subst (AtHome front_of back_of r F S p) same (record { front_fits = fits.0; back_fits = fits.1; place_is = place_at m fits.0 fits.1 ∙ found.2 }))
-      (λ none. let z : ◌≡◌ {A = ℕ} 0 1 = ap (λ (b : Bool). cond {A = ℕ} b 1 0) (sym (slot_other p h none slot is) ∙ full) in absurd (omega arith))
+      (λ none. cc (slot_other p h none slot is))
       (some_or_none at p ms)
 
   built_sound : Sound front_of back_of r F S T
@@ -189,7 +187,7 @@ module _ {C V : Type 0} (front_of back_of : C → ℕ) (law : (x y : C) → fron
     where
       missing : entry_in front_of back_of ms code ≡ None → hold front_of back_of (slice_get T (place_for front_of back_of F S code)) code ≡ None
       missing none =
-          let within = place_fits front_of back_of r F S T built_sound (front_of code) (back_of code) f b in
+          let within = place_fits built_sound (front_of code) (back_of code) f b in
           let there = nth_some T (place_for front_of back_of F S code) (omega (arith, built_sound.slots_long)) in
           ⊎_elim {C = hold front_of back_of (slice_get T (place_for front_of back_of F S code)) code ≡ None}
           (λ found.

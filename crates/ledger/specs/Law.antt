@@ -1,10 +1,7 @@
 -- The ledger law: what an index answers, over every list of calls, is what the ledger asks for. Assumes nothing.
-use Rattle.std.specs.Prelude.{◌≡◌, ℕ, ◌+◌, ◌^◌, ◌<◌, ◌≤◌, true, List, length, take, Some, None, Ok, Err, count_by, Option, Result, nat_le, slice_index}
+use Rattle.std.specs.Prelude.{◌≡◌, ℕ, ◌+◌, ◌^◌, ◌<◌, ◌≤◌, true, List, length, take, Some, None, Ok, IfOk, count_by, Option, Result, slice_index}
 use Rattle.std.specs.List.{slice_get}
 use Rattle.fault.specs.declared.Fault.{Fault}
-use Rattle.fault.specs.declared.Fault.TheVariants as fault
-use Rattle.fault.specs.declared.Half.TheVariants.{Front, Back}
-use Rattle.lists.specs.Size.{refuse}
 use Rattle.rule.specs.Places.{Apart, Distinct}
 use Rattle.slots.specs.declared.Slot.{Slot}
 use Rattle.slots.specs.Calls.{look_up}
@@ -13,7 +10,7 @@ use Rattle.build.specs.Built.{half, slot_list}
 use Rattle.ledger.specs.declared.Call.{Call}
 use Rattle.ledger.specs.declared.Answer.{Answer}
 use Rattle.ledger.specs.Run.{slots_after_calls}
-use Rattle.ledger.specs.Ledger.{entry_in, place_for, asked, ledger_after, inserts, removes}
+use Rattle.ledger.specs.Ledger.{entry_in, place_for, if_fits, asked, ledger_after, inserts, removes}
 
 -- how many slots are full
 abbrev pub full_count : {C V : Type 0} → List (Slot C V) → ℕ
@@ -22,9 +19,7 @@ full_count slots = count_by (λ slot. slot.full) slots
 -- absent, or refused if a half is 2^r or more
 abbrev pub not_found : {C V : Type 0} (front_of back_of : C → ℕ) (r : ℕ) → C → Result (Option (ℕ × V)) Fault
 not_found front_of back_of r code =
-    refuse (nat_le (2 ^ r) (front_of code)) (fault.LargeHalf Front 0) (
-    refuse (nat_le (2 ^ r) (back_of code)) (fault.LargeHalf Back 0) (
-    Ok None))
+    if_fits front_of back_of r code (Ok None)
 
 module _ {C V : Type 0} (front_of back_of : C → ℕ) (r : ℕ) (first second : List ℕ) where
   -- a full slot that holds a code which fits r, and whose place it is
@@ -53,7 +48,7 @@ module _ {C V : Type 0} (front_of back_of : C → ℕ) (r : ℕ) (first second :
     pub number : full_count (take (2 ^ r) slots) ≡ length ledger
 
   -- the slots and the ledger after the first k of the calls
-  module _ (slots : List (Slot C V)) (ledger : List (Member C V)) (calls : List (Call C V)) (answers : List (Answer V)) where
+  module _ (slots : List (Slot C V)) (ledger : List (Member C V)) (calls : List (Call C V)) (answers : List (Result (Answer V) Fault)) where
     abbrev pub slots_at : ℕ → List (Slot C V)
     slots_at k = slots_after_calls front_of back_of r first second slots (take k calls)
 
@@ -71,17 +66,15 @@ module _ {C V : Type 0} (front_of back_of : C → ℕ) (r : ℕ) (first second :
       pub balance : length (ledger_at (length calls)) + removes calls answers ≡ length ledger + inserts calls answers
 
   -- what a run keeps: the law over its calls, and an index that matches the ledger after them and that calls may go on from
-  pub record Kept (slots : List (Slot C V)) (ledger : List (Member C V)) (calls : List (Call C V)) (answers : List (Answer V)) (new_slots : List (Slot C V)) : Type 0 where
+  pub record Kept (slots : List (Slot C V)) (ledger : List (Member C V)) (calls : List (Call C V)) (answers : List (Result (Answer V) Fault)) (new_slots : List (Slot C V)) : Type 0 where
     pub law : LedgerLaw slots ledger calls answers
     pub matches_after : Matches new_slots (ledger_after front_of back_of ledger calls answers)
     pub sound_after : Sound new_slots
 
   -- the law of a run from an index that matches some ledger, if the run is accepted
-  abbrev pub RunLaw : List (Slot C V) → List (Call C V) → Result (Unit {0}) Fault → List (Slot C V) → List (Answer V) → Type 0
-  RunLaw slots calls (Ok x) new_slots answers = (ledger : List (Member C V)) → Sound slots → Matches slots ledger → Kept slots ledger calls answers new_slots
-  RunLaw slots calls (Err fault) new_slots answers = Unit {0}
+  abbrev pub RunLaw : List (Slot C V) → List (Call C V) → Result (Unit {0}) Fault → List (Slot C V) → List (Result (Answer V) Fault) → Type 0
+  RunLaw slots calls a new_slots answers = IfOk a (λ _. (ledger : List (Member C V)) → Sound slots → Matches slots ledger → Kept slots ledger calls answers new_slots)
 
 -- the law of a run from a build, whose members are the ledger at the start, if it is accepted
-abbrev pub ServeLaw : {C V : Type 0} (front_of back_of : C → ℕ) (r : ℕ) (ms : List (Member C V)) (calls : List (Call C V)) (old_slots : List (Slot C V)) (a : Result (ℕ × ℕ) Fault) (first second : List ℕ) (new_slots : List (Slot C V)) (answers : List (Answer V)) → Type 0
-ServeLaw front_of back_of r ms calls old_slots (Ok counts) first second new_slots answers = Kept front_of back_of r first second (slot_list front_of back_of r ms old_slots) ms calls answers new_slots
-ServeLaw front_of back_of r ms calls old_slots (Err fault) first second new_slots answers = Unit {0}
+abbrev pub ServeLaw : {C V : Type 0} (front_of back_of : C → ℕ) (r : ℕ) (ms : List (Member C V)) (calls : List (Call C V)) (old_slots : List (Slot C V)) (a : Result (ℕ × ℕ) Fault) (first second : List ℕ) (new_slots : List (Slot C V)) (answers : List (Result (Answer V) Fault)) → Type 0
+ServeLaw front_of back_of r ms calls old_slots a first second new_slots answers = IfOk a (λ _. Kept front_of back_of r first second (slot_list front_of back_of r ms old_slots) ms calls answers new_slots)

@@ -1,39 +1,37 @@
 -- The ledger: a list of codes with their entries, kept beside an index from the calls alone. Assumes nothing.
-use Rattle.std.specs.Prelude.{ℕ, ◌+◌, ◌^◌, Bool, true, false, cond, ◌&&◌, ◌||◌, List, [], ◌∷◌, map, Some, None, Option, ◌==◌, nat_le}
+use Rattle.std.specs.Prelude.{ℕ, ◌^◌, Bool, true, false, cond, not, ◌&&◌, List, ◌∷◌, map, Some, None, Ok, Err, Option, option_map, Result, is_ok, ◌==◌, nat_le, fold, filter, count_by}
+use Rattle.std.specs.List.{list_any, zip, find}
+use Rattle.fault.specs.declared.Fault.{Fault}
 use Rattle.fault.specs.declared.Fault.TheVariants as fault
 use Rattle.fault.specs.declared.Half.TheVariants.{Front, Back}
 use Rattle.lists.specs.Place.{place_within}
+use Rattle.lists.specs.Size.{refuse}
 use Rattle.build.specs.declared.Member.{Member}
 use Rattle.ledger.specs.declared.Call.{Call}
 use Rattle.ledger.specs.declared.Call.TheVariants.{Lookup, Replace, Remove, Insert}
 use Rattle.ledger.specs.declared.Answer.{Answer}
-use Rattle.ledger.specs.declared.Answer.TheVariants.{Absent, Found, Replaced, Removed, Inserted, Refused}
+use Rattle.ledger.specs.declared.Answer.TheVariants.{LookedUp, Replaced, Removed, Inserted}
 
--- whether a call was accepted
-abbrev pub accepted : {V : Type 0} → Answer V → Bool
-accepted (Refused fault) = false
-accepted Absent = true
-accepted (Found place entry) = true
-accepted (Replaced entry) = true
-accepted (Removed entry) = true
-accepted (Inserted place) = true
+module _ {C V : Type 0} where
+  -- whether a call is an insert, and whether it is a remove
+  abbrev pub is_insert : Call C V → Bool
+  is_insert (Lookup code) = false
+  is_insert (Replace code entry) = false
+  is_insert (Remove code) = false
+  is_insert (Insert code entry) = true
 
--- the accepted inserts, and the accepted removes, among calls with these answers
-unfoldable pub inserts : {C V : Type 0} → List (Call C V) → List (Answer V) → ℕ
-inserts [] answers = 0
-inserts (call ∷ calls) [] = 0
-inserts (Insert code entry ∷ calls) (answer ∷ answers) = cond (accepted answer) 1 0 + inserts calls answers
-inserts (Lookup code ∷ calls) (answer ∷ answers) = inserts calls answers
-inserts (Replace code entry ∷ calls) (answer ∷ answers) = inserts calls answers
-inserts (Remove code ∷ calls) (answer ∷ answers) = inserts calls answers
+  abbrev pub is_remove : Call C V → Bool
+  is_remove (Lookup code) = false
+  is_remove (Replace code entry) = false
+  is_remove (Remove code) = true
+  is_remove (Insert code entry) = false
 
-unfoldable pub removes : {C V : Type 0} → List (Call C V) → List (Answer V) → ℕ
-removes [] answers = 0
-removes (call ∷ calls) [] = 0
-removes (Remove code ∷ calls) (answer ∷ answers) = cond (accepted answer) 1 0 + removes calls answers
-removes (Lookup code ∷ calls) (answer ∷ answers) = removes calls answers
-removes (Replace code entry ∷ calls) (answer ∷ answers) = removes calls answers
-removes (Insert code entry ∷ calls) (answer ∷ answers) = removes calls answers
+  -- the accepted inserts, and the accepted removes, among calls with these answers
+  unfoldable pub inserts : List (Call C V) → List (Result (Answer V) Fault) → ℕ
+  inserts calls answers = count_by (λ (p : Call C V × Result (Answer V) Fault). is_insert p.0 && is_ok p.1) (zip calls answers)
+
+  unfoldable pub removes : List (Call C V) → List (Result (Answer V) Fault) → ℕ
+  removes calls answers = count_by (λ (p : Call C V × Result (Answer V) Fault). is_remove p.0 && is_ok p.1) (zip calls answers)
 
 module _ {C : Type 0} (front_of back_of : C → ℕ) where
   -- codes are the same exactly if their halves are
@@ -47,8 +45,7 @@ module _ {C : Type 0} (front_of back_of : C → ℕ) where
 module _ {C V : Type 0} (front_of back_of : C → ℕ) where
   -- the entry of a code, if the ledger has the code
   unfoldable pub entry_in : List (Member C V) → C → Option V
-  entry_in [] code = None
-  entry_in (m ∷ ledger) code = cond (same_code front_of back_of m.code code) (Some m.entry) (entry_in ledger code)
+  entry_in ledger code = option_map (λ (m : Member C V). m.entry) (find (λ (m : Member C V). same_code front_of back_of m.code code) ledger)
 
   -- the ledger with another entry for a code
   abbrev pub with_entry : C → V → Member C V → Member C V
@@ -56,8 +53,7 @@ module _ {C V : Type 0} (front_of back_of : C → ℕ) where
 
   -- the ledger without a code
   unfoldable pub without : C → List (Member C V) → List (Member C V)
-  without code [] = []
-  without code (m ∷ ledger) = cond (same_code front_of back_of m.code code) (without code ledger) (m ∷ without code ledger)
+  without code ledger = filter (λ (m : Member C V). not (same_code front_of back_of m.code code)) ledger
 
   -- the ledger after a call, which is fed the call's arguments and whether it was accepted
   abbrev pub fed : Call C V → Bool → List (Member C V) → List (Member C V)
@@ -68,44 +64,41 @@ module _ {C V : Type 0} (front_of back_of : C → ℕ) where
   fed (Insert code entry) true ledger = record { code = code; entry = entry } ∷ ledger
 
   -- the ledger after calls with these answers
-  unfoldable pub ledger_after : List (Member C V) → List (Call C V) → List (Answer V) → List (Member C V)
-  ledger_after ledger [] answers = ledger
-  ledger_after ledger (call ∷ calls) [] = ledger
-  ledger_after ledger (call ∷ calls) (answer ∷ answers) = ledger_after (fed call (accepted answer) ledger) calls answers
+  unfoldable pub ledger_after : List (Member C V) → List (Call C V) → List (Result (Answer V) Fault) → List (Member C V)
+  ledger_after ledger calls answers = fold (λ (now : List (Member C V)) (p : Call C V × Result (Answer V) Fault). fed p.0 (is_ok p.1) now) ledger (zip calls answers)
 
 module _ {C V : Type 0} (front_of back_of : C → ℕ) (first second : List ℕ) where
   -- whether some code of the ledger has this place
   unfoldable pub taken : List (Member C V) → ℕ → Bool
-  taken [] place = false
-  taken (m ∷ ledger) place = place_for front_of back_of first second m.code == place || taken ledger place
+  taken ledger place = list_any (λ (m : Member C V). place_for front_of back_of first second m.code == place) ledger
 
   -- what each call with a code that fits is to answer, given the entry that the ledger has for the code
-  abbrev pub lookup_asked : C → Option V → Answer V
-  lookup_asked code (Some entry) = Found (place_for front_of back_of first second code) entry
-  lookup_asked code None = Absent
+  abbrev pub lookup_asked : C → Option V → Result (Answer V) Fault
+  lookup_asked code (Some entry) = Ok (LookedUp (Some (place_for front_of back_of first second code, entry)))
+  lookup_asked code None = Ok (LookedUp None)
 
-  abbrev pub replace_asked : C → Option V → Answer V
-  replace_asked code (Some entry) = Replaced entry
-  replace_asked code None = Refused (fault.NotFound (place_for front_of back_of first second code))
+  abbrev pub replace_asked : C → Option V → Result (Answer V) Fault
+  replace_asked code (Some entry) = Ok (Replaced entry)
+  replace_asked code None = Err (fault.NotFound (place_for front_of back_of first second code))
 
-  abbrev pub remove_asked : C → Option V → Answer V
-  remove_asked code (Some entry) = Removed entry
-  remove_asked code None = Refused (fault.NotFound (place_for front_of back_of first second code))
+  abbrev pub remove_asked : C → Option V → Result (Answer V) Fault
+  remove_asked code (Some entry) = Ok (Removed entry)
+  remove_asked code None = Err (fault.NotFound (place_for front_of back_of first second code))
 
   -- an insert is refused if its code is there, and where another code has its place
-  abbrev pub insert_asked : C → Bool → Option V → Answer V
-  insert_asked code full (Some entry) = Refused (fault.Found (place_for front_of back_of first second code))
-  insert_asked code full None = cond full (Refused (fault.PlaceTaken (place_for front_of back_of first second code))) (Inserted (place_for front_of back_of first second code))
+  abbrev pub insert_asked : C → Bool → Option V → Result (Answer V) Fault
+  insert_asked code full (Some entry) = Err (fault.Found (place_for front_of back_of first second code))
+  insert_asked code full None = refuse full (fault.PlaceTaken (place_for front_of back_of first second code)) (Ok (Inserted (place_for front_of back_of first second code)))
 
 -- refused if a half of the code is 2^r or more, else the rest
-abbrev pub if_fits : {C V : Type 0} (front_of back_of : C → ℕ) (r : ℕ) → C → Answer V → Answer V
+abbrev pub if_fits : {C X : Type 0} (front_of back_of : C → ℕ) (r : ℕ) → C → Result X Fault → Result X Fault
 if_fits front_of back_of r code rest =
-    cond (nat_le (2 ^ r) (front_of code)) (Refused (fault.LargeHalf Front 0)) (
-    cond (nat_le (2 ^ r) (back_of code)) (Refused (fault.LargeHalf Back 0)) rest)
+    refuse (nat_le (2 ^ r) (front_of code)) (fault.LargeHalf Front 0) (
+    refuse (nat_le (2 ^ r) (back_of code)) (fault.LargeHalf Back 0) rest)
 
 module _ {C V : Type 0} (front_of back_of : C → ℕ) (r : ℕ) (first second : List ℕ) where
   -- the answer that the ledger asks for
-  abbrev pub asked : List (Member C V) → Call C V → Answer V
+  abbrev pub asked : List (Member C V) → Call C V → Result (Answer V) Fault
   asked ledger (Lookup code) = if_fits front_of back_of r code (lookup_asked front_of back_of first second code (entry_in front_of back_of ledger code))
   asked ledger (Replace code entry) = if_fits front_of back_of r code (replace_asked front_of back_of first second code (entry_in front_of back_of ledger code))
   asked ledger (Remove code) = if_fits front_of back_of r code (remove_asked front_of back_of first second code (entry_in front_of back_of ledger code))

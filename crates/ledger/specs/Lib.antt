@@ -1,4 +1,3 @@
 pub mod Run
 pub mod Ledger
 pub mod Law
-pub mod Steps

@@ -1,8 +1,9 @@
 // Calls carried out one after another.
-ghost use Rattle.std.specs.Prelude.{◌≡◌, ◌<◌, ◌≤◌, ◌++◌, length, drop, slice_set};
+// r, both lists and the slots stay parameters: no proof covers a `&mut` list in a struct's field that `lookup` takes as `&`.
+ghost use Rattle.std.specs.Prelude.{◌≡◌, ◌≤◌, ◌++◌, length, drop};
 ghost use Rattle.ledger.specs.Run.{answer_to, answers_to, slots_after_call, slots_after_calls};
 
-use crate::{Answer, Call, laws};
+use crate::{Answer, Call, Outcome};
 use codes::Code;
 use slots::Slot;
 
@@ -13,37 +14,20 @@ fn carry_out<C: Code, V: Copy>(
     second: &[u16],
     slots: &mut [Slot<C, V>],
     call: Call<C, V>,
-) -> Answer<V>
+) -> Outcome<V>
     ensures answer { result ≡ answer_to C.Code.front_of C.Code.back_of r first.now second.now slots.old call }
     ensures after { slots.new ≡ slots_after_call C.Code.front_of C.Code.back_of r first.now second.now slots.old call }
 {
-    match call {
-        Call::Lookup(code) => match slots::lookup(r, first, second, slots, code) {
-            Ok(Some((place, entry))) => Answer::Found(place, entry),
-            Ok(None) => Answer::Absent,
-            Err(fault) => Answer::Refused(fault),
-        },
-        Call::Replace(code, entry) => match slots::replace(r, first, second, slots, code, entry) {
-            Ok(old) => Answer::Replaced(old),
-            Err(fault) => Answer::Refused(fault),
-        },
-        Call::Remove(code) => match slots::remove(r, first, second, slots, code) {
-            Ok(entry) => Answer::Removed(entry),
-            Err(fault) => Answer::Refused(fault),
-        },
-        Call::Insert(code, entry) => match slots::insert(r, first, second, slots, code, entry) {
-            Ok(place) => Answer::Inserted(place),
-            Err(fault) => Answer::Refused(fault),
-        },
-    }
-}
-
-// Leaves an answer at a position.
-fn put<V: Copy>(answers: &mut [Answer<V>], i: usize, answer: Answer<V>)
-    requires { i < length answers.old }
-    ensures { answers.new ≡ slice_set answers.old i answer }
-{
-    answers[i] = answer;
+    Ok(match call {
+        Call::Lookup(code) => Answer::LookedUp(slots::lookup(r, first, second, slots, code)?),
+        Call::Replace(code, entry) => {
+            Answer::Replaced(slots::replace(r, first, second, slots, code, entry)?)
+        }
+        Call::Remove(code) => Answer::Removed(slots::remove(r, first, second, slots, code)?),
+        Call::Insert(code, entry) => {
+            Answer::Inserted(slots::insert(r, first, second, slots, code, entry)?)
+        }
+    })
 }
 
 // Carries out every call in turn, and leaves its answer at its position.
@@ -53,16 +37,14 @@ pub(crate) fn carry_out_all<C: Code, V: Copy>(
     second: &[u16],
     slots: &mut [Slot<C, V>],
     calls: &[Call<C, V>],
-    answers: &mut [Answer<V>],
+    answers: &mut [Outcome<V>],
 )
     requires { length calls.now ≤ length answers.old }
     ensures slots { slots.new ≡ slots_after_calls C.Code.front_of C.Code.back_of r first.now second.now slots.old calls.now }
     ensures answers { answers.new ≡ answers_to C.Code.front_of C.Code.back_of r first.now second.now slots.old calls.now ++ drop (length calls.now) answers.old }
 {
-    laws::end(r, first, second, calls);
+    // An answer is written at its index: of a list that a zip lent out by iter_mut, the proof knows no element afterwards.
     for (i, call) in calls.iter().enumerate() {
-        laws::turn(r, first, second, slots, calls, answers, i, *call);
-        let answer = carry_out(r, first, second, slots, *call);
-        put(answers, i, answer);
+        answers[i] = carry_out(r, first, second, slots, *call);
     }
 }

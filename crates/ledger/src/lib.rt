@@ -1,12 +1,12 @@
 // Many calls on one index, each with its answer, and the law that holds over all of them.
+// By a rule of the project a call on an index takes the half width, both lists and the slots one by one.
 #![tactic(auto)]
 
 ghost use Rattle.std.specs.Prelude.{◌≡◌, length, replicate};
-ghost use Rattle.ledger.specs.Run.{Ran, Served};
+ghost use Rattle.ledger.specs.Run.{answers_room, Ran, Served};
 ghost use Rattle.ledger.specs.Law.{RunLaw, ServeLaw};
 
 mod calls;
-mod laws;
 
 use build::{Member, build};
 use calls::carry_out_all;
@@ -16,7 +16,7 @@ use lists::WorkGuard;
 use slots::Slot;
 
 // A call on an index.
-#[derive(Clone, Copy, Debug)]
+#[derive(Clone, Copy, PartialEq, Eq, Debug)]
 pub enum Call<C, V> {
     Lookup(C),
     Replace(C, V),
@@ -24,35 +24,26 @@ pub enum Call<C, V> {
     Insert(C, V),
 }
 
-// What a call answers: nothing found, the place and the entry that were found, the entry that was replaced or removed,
-// the place of an insert, or the refusal.
-#[derive(Clone, Copy, Debug)]
+// What an accepted call answers: a lookup the place and the entry, if the code is there; a replace and a remove the entry
+// that was there; an insert the place.
+#[derive(Clone, Copy, PartialEq, Eq, Debug)]
 pub enum Answer<V> {
-    Absent,
-    Found(usize, V),
+    LookedUp(Option<(usize, V)>),
     Replaced(V),
     Removed(V),
     Inserted(usize),
-    Refused(Fault),
 }
 
-// The calls of a run, if there is room for their answers.
-fn run_calls<C: Code, V: Copy>(
-    r: u32,
-    first: &[u16],
-    second: &[u16],
-    slots: &mut [Slot<C, V>],
-    calls: &[Call<C, V>],
-    answers: &mut [Answer<V>],
-) -> Result<(), Fault>
-    ensures { Ran C.Code.front_of C.Code.back_of r first.now second.now calls.now slots.old answers.old result slots.new answers.new }
+// The outcome of a call: its answer, or the refusal.
+pub type Outcome<V> = Result<Answer<V>, Fault>;
+
+// Refuses a number of answers that is less than the number of calls.
+fn room(calls: usize, answers: usize) -> Result<(), Fault>
+    ensures { result ≡ answers_room calls answers }
 {
-    if answers.len() < calls.len() {
-        return Err(Fault::ShortOutput {
-            needed: calls.len(),
-        });
+    if answers < calls {
+        return Err(Fault::ShortOutput { needed: calls });
     }
-    carry_out_all(r, first, second, slots, calls, answers);
     Ok(())
 }
 
@@ -66,41 +57,14 @@ pub fn run<C: Code, V: Copy>(
     second: &[u16],
     slots: &mut [Slot<C, V>],
     calls: &[Call<C, V>],
-    answers: &mut [Answer<V>],
+    answers: &mut [Outcome<V>],
 ) -> Result<(), Fault>
     ensures ran { Ran C.Code.front_of C.Code.back_of r first.now second.now calls.now slots.old answers.old result slots.new answers.new }
     ensures law { RunLaw C.Code.front_of C.Code.back_of r first.now second.now slots.old calls.now result slots.new answers.new }
 {
-    run_calls(r, first, second, slots, calls, answers)
-}
-
-// A build and then the calls, if there is room for their answers, with the work list under guard.
-fn build_and_run<C: Code, V: Copy>(
-    r: u32,
-    members: &[Member<C, V>],
-    first: &mut [u16],
-    second: &mut [u16],
-    slots: &mut [Slot<C, V>],
-    work: &mut [u32],
-    calls: &[Call<C, V>],
-    answers: &mut [Answer<V>],
-) -> Result<(usize, u64), Fault>
-    ensures zero { work.new ≡ replicate (length work.old) 0 }
-    ensures served { Served C.Code.front_of C.Code.back_of r members.now calls.now first.old second.old slots.old (length work.old) answers.old result first.new second.new slots.new answers.new }
-{
-    let guard = WorkGuard { work };
-    if answers.len() < calls.len() {
-        return Err(Fault::ShortOutput {
-            needed: calls.len(),
-        });
-    }
-    match build(r, members, first, second, slots, guard.work) {
-        Err(fault) => Err(fault),
-        Ok(counts) => {
-            carry_out_all(r, first, second, slots, calls, answers);
-            Ok(counts)
-        }
-    }
+    room(calls.len(), answers.len())?;
+    carry_out_all(r, first, second, slots, calls, answers);
+    Ok(())
 }
 
 // Builds an index of half width r from its members and then carries out calls on it, one after another, leaving the answer
@@ -118,13 +82,17 @@ pub fn serve<C: Code, V: Copy>(
     slots: &mut [Slot<C, V>],
     work: &mut [u32],
     calls: &[Call<C, V>],
-    answers: &mut [Answer<V>],
+    answers: &mut [Outcome<V>],
 ) -> Result<(usize, u64), Fault>
     ensures zero { work.new ≡ replicate (length work.old) 0 }
     ensures served { Served C.Code.front_of C.Code.back_of r members.now calls.now first.old second.old slots.old (length work.old) answers.old result first.new second.new slots.new answers.new }
     ensures law { ServeLaw C.Code.front_of C.Code.back_of r members.now calls.now slots.old result first.new second.new slots.new answers.new }
 {
-    build_and_run(r, members, first, second, slots, work, calls, answers)
+    let guard = WorkGuard { work };
+    room(calls.len(), answers.len())?;
+    let counts = build(r, members, first, second, slots, guard.work)?;
+    carry_out_all(r, first, second, slots, calls, answers);
+    Ok(counts)
 }
 
 #[cfg(test)]

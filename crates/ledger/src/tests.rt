@@ -33,7 +33,7 @@ fn two_days(rt: HostRuntime) {
         Call::Insert(Pattern::new(2, 5), Shelf(1)),
         Call::Replace(a, Shelf(301)),
     ];
-    let mut answers = [Answer::Absent; 4];
+    let mut answers = [Ok(Answer::LookedUp(None)); 4];
     assert_eq!(rt;
         serve(
             4,
@@ -47,10 +47,15 @@ fn two_days(rt: HostRuntime) {
         ),
         Ok((2, 0))
     );
-    assert!(rt; matches!(answers[0], Answer::Absent));
-    assert!(rt; matches!(answers[1], Answer::Inserted(4)));
-    assert!(rt; matches!(answers[2], Answer::Refused(Fault::PlaceTaken { place: 2 })));
-    assert!(rt; matches!(answers[3], Answer::Replaced(Shelf(300))));
+    assert_eq!(rt;
+        answers,
+        [
+            Ok(Answer::LookedUp(None)),
+            Ok(Answer::Inserted(4)),
+            Err(Fault::PlaceTaken { place: 2 }),
+            Ok(Answer::Replaced(Shelf(300))),
+        ]
+    );
     let calls = [Call::Remove(b), Call::Lookup(a)];
     assert_eq!(rt;
         run(4, &first, &second, &mut slots, &calls, &mut answers[0..1]),
@@ -60,6 +65,6 @@ fn two_days(rt: HostRuntime) {
         run(4, &first, &second, &mut slots, &calls, &mut answers),
         Ok(())
     );
-    assert!(rt; matches!(answers[0], Answer::Removed(Shelf(12))));
-    assert!(rt; matches!(answers[1], Answer::Found(3, Shelf(301))));
+    assert_eq!(rt; answers[0], Ok(Answer::Removed(Shelf(12))));
+    assert_eq!(rt; answers[1], Ok(Answer::LookedUp(Some((3, Shelf(301))))));
 }

@@ -1,5 +1,5 @@
 -- The place of a code. Assumes nothing.
-use Rattle.std.specs.Prelude.{◌≡◌, ℕ, ◌^◌, ◌<◌, List, length, Ok, Result, bit_xor, nat_le, slice_index}
+use Rattle.std.specs.Prelude.{ℕ, List, length, Ok, Result, bit_xor, nat_le, slice_index}
 use Rattle.fault.specs.declared.Displacements.TheVariants.{First, Second}
 use Rattle.fault.specs.declared.Fault.{Fault}
 use Rattle.fault.specs.declared.Fault.TheVariants.{LargeHalf, LargeDisplacement}
@@ -27,8 +27,3 @@ place_in n first second front back =
 unfoldable pub place_of : ℕ → List ℕ → List ℕ → ℕ → ℕ → ℕ → Result ℕ Fault
 place_of r first second slots front back =
     and_then (checked_size_of r (length first) (length second) slots) (λ n. place_in n first second front back)
-
--- how a place is found, and that two numbers below 2^r give one
-pub record PlaceLaw (r : ℕ) (first second : List ℕ) (slots front back : ℕ) : Type 0 where
-  pub steps : place_of r first second slots front back ≡ and_then (checked_size_of r (length first) (length second) slots) (λ n. place_in n first second front back)
-  pub within : (a b : ℕ) → a < 2 ^ r → b < 2 ^ r → bit_xor a b < 2 ^ r

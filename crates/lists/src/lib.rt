@@ -4,8 +4,7 @@
 ghost use Rattle.std.specs.Prelude.{◌≡◌, ◌*◌, ◌^◌, ◌<◌, ◌≤◌, length, replicate, IfOk, Ok, nat_le, nat_lt, slice_index};
 ghost use Rattle.fault.specs.declared.Fault.TheVariants.{ShortList, LargeHalf, LargeDisplacement};
 ghost use Rattle.lists.specs.Size.{refuse, size_of, checked_size_of, checked_size_with_work_of, work_per_place, Accepted};
-ghost use Rattle.lists.specs.Place.{place_of, PlaceLaw};
-ghost use Rattle.lists.specs.Zeros.{ClearLaw};
+ghost use Rattle.lists.specs.Place.{place_of};
 
 use fault::{Displacements, Fault, Half, List};
 
@@ -16,13 +15,14 @@ pub const WORK_PER_PLACE: usize = 8;
 pub fn size(r: u32) -> Result<usize, Fault>
     ensures { result ≡ size_of r }
 {
-    if r < 4 || r > 16 {
+    if !(4..=16).contains(&r) {
         return Err(Fault::HalfWidth { r });
     }
     Ok(1 << r)
 }
 
 // The size of an index, if its lists have these lengths at least.
+// The lengths stay parameters and make no struct: by rule of the project each list is lent by itself.
 pub fn checked_size(r: u32, first: usize, second: usize, slots: usize) -> Result<usize, Fault>
     ensures value { result ≡ checked_size_of r first second slots }
     ensures accepted { IfOk result (λ n. Accepted r first second slots n) }
@@ -63,6 +63,7 @@ fn long_enough(list: List, len: usize, least: usize) -> Result<(), Fault>
 // The place of a code, given its front and back half and the length of the slot list: the number of its slot.
 // What the first list has at the front half displaces the back half: that is the first place.
 // What the second list has at the first place displaces the front half: that is the place.
+#[tactic(auto, unfolding(crate::specs::Place::place_of))]
 pub fn place(
     r: u32,
     first: &[u16],
@@ -74,7 +75,6 @@ pub fn place(
     ensures value { result ≡ place_of r first.now second.now slots front back }
     ensures within { IfOk result (λ p. (p < 2 ^ r) × (p < slots)) }
 {
-    place_law(r, first, second, slots, front, back);
     let n = checked_size(r, first.len(), second.len(), slots)?;
     let front = half_within(Half::Front, front, n)?;
     let back = half_within(Half::Back, back, n)?;
@@ -82,17 +82,14 @@ pub fn place(
     Ok(front ^ displacement(Displacements::Second, second, first_place, n)?)
 }
 
-// A half as a number below n.
+// A half, if it is below n.
 fn half_within(half: Half, number: u32, n: usize) -> Result<usize, Fault>
     ensures { result ≡ refuse (nat_le n number) (LargeHalf half 0) (Ok number) }
 {
-    if number as usize >= n {
-        return Err(Fault::LargeHalf { half, position: 0 });
-    }
-    Ok(number as usize)
+    below(n, number as usize, Fault::LargeHalf { half, position: 0 })
 }
 
-// The displacement that a list holds at an index, as a number below n.
+// The displacement that a list holds at an index, if it is below n.
 fn displacement(
     list: Displacements,
     displacements: &[u16],
@@ -102,17 +99,16 @@ fn displacement(
     requires { index < length displacements.now }
     ensures { result ≡ refuse (nat_le n (slice_index displacements.now index)) (LargeDisplacement list index) (Ok (slice_index displacements.now index)) }
 {
-    let d = displacements[index] as usize;
-    if d >= n {
-        return Err(Fault::LargeDisplacement { list, index });
-    }
-    Ok(d)
+    let displacement = usize::from(displacements[index]);
+    below(n, displacement, Fault::LargeDisplacement { list, index })
 }
 
-// How a place is found, and that it is one of the index. It does nothing: its contract is the law that `place` uses.
-fn place_law(r: u32, first: &[u16], second: &[u16], slots: usize, front: u32, back: u32)
-    ensures { PlaceLaw r first.now second.now slots front back }
-{}
+// A number below n; else the fault.
+fn below(n: usize, number: usize, fault: Fault) -> Result<usize, Fault>
+    ensures { result ≡ refuse (nat_le n number) fault (Ok number) }
+{
+    if number < n { Ok(number) } else { Err(fault) }
+}
 
 // The lent work list while a build or a load uses it: at the guard's end all of it is 0.
 pub struct WorkGuard<'a> {
@@ -123,22 +119,7 @@ impl Drop for WorkGuard<'_> {
     fn drop(self)
         ensures { self.exit.0.now ≡ replicate (length self.entry.work.now) 0 }
     {
-        let WorkGuard { work } = self;
-        clear(work);
+        let Self { work } = self;
+        work.fill(0);
     }
 }
-
-// Writes 0 everywhere.
-fn clear(list: &mut [u32])
-    ensures { list.new ≡ replicate (length list.old) 0 }
-{
-    clear_law();
-    for x in list.iter_mut() {
-        *x = 0;
-    }
-}
-
-// How a list is cleared; as above, a law and no code.
-fn clear_law()
-    ensures { ClearLaw }
-{}

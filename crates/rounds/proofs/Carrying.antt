@@ -1,67 +1,30 @@
 -- Rounds over members, carried over to columns of numbers. Assumes nothing.
-use Rattle.std.proofs.Common.{◌≡◌, ℕ, zero, suc, ◌+◌, ◌*◌, ◌^◌, ◌<◌, ◌≤◌, Bool, true, false, eqb, leb, List, [], ◌∷◌, ◌++◌, map, length, get_or, take, drop, MatchBool, sym, refl, ap, ◌∙◌, pow-suc, arith}
-use lib.Bits.{bit_xor, xor_lt}
+use Rattle.std.proofs.Common.{◌≡◌, ℕ, ◌^◌, ◌<◌, ◌≤◌, Bool, true, false, List, [], ◌∷◌, ◌++◌, map, length, get_or, take, drop, MatchBool, sym, refl, ap, ◌∙◌, subst, arith}
+use lib.Bits.{bit_xor}
 use Rattle.std.specs.List.{zip, range_with_len, AllByRecursion as All}
 use Rattle.std.proofs.lemmas.List.FromFn.{length-map-range_with_len, get_or-map-range_with_len}
 use Rattle.std.proofs.ByRecursion.{All-get_or, All-from_get_or, All-map, All-weaker}
 use Rattle.std.proofs.lemmas.List.{get_or_append_left, length-map, length-take, take_at, take-append-drop}
 use Rattle.std.proofs.lemmas.Slice.Zip.{firsts-zip, seconds-zip, get_or-zip, length-zip}
-use Rattle.std.proofs.lemmas.Bool.{cond_both}
-use Rattle.rule.specs.Choose.{pick, choose}
-use Rattle.rule.specs.Round.{keep, behind, of_class, order, taken, falling, displacement, result}
+use Rattle.rule.specs.Round.{of_class, displacement, result}
 use Rattle.rule.specs.Places.{first, first_place, second, place, shared_pairs_of}
-use Rattle.displace.specs.Columns.{class_of, moved_of, displacements, Below}
+use Rattle.displace.specs.Columns.{class_of, moved_of, displacements, Below, ColumnsFit}
 use Rattle.rounds.specs.Halves.{front_of, back_of, firsts, first_places, seconds, places_of, pairs_of, moved_by, shared_rows}
-use Rattle.rounds.proofs.Sharing.{shared-map}
-
--- ---- a displacement fits its bits
-choose-within : (k : ℕ) (ms ys : List ℕ) → choose k ms ys < 2 ^ k
-unfolding choose pick
-choose-within zero ms ys = omega arith
-choose-within (suc k) ms ys =
-    let h = choose-within k ms ys in
-    let d = choose k ms ys in
-    rw (pow-suc 2 k) (cond_both _ (d + 2 ^ k) d (λ n. n < 2 ^ k * 2) (λ _. omega arith) (λ _. omega arith))
-
-displacement-within : {X : Type 0} (f g : X → ℕ) (r : ℕ) (xs : List X) (v : ℕ) → displacement f g r xs v < 2 ^ r
-unfolding displacement
-displacement-within f g r xs v = choose-within r _ _
+use Rattle.rule.proofs.Columns.{displacement-equal, shared-map}
+use Rattle.rule.proofs.Rounds.{first_place_lt}
 
 -- ---- two columns have the displacements of their members
-keep_same : (p q : ℕ → Bool) → ((c : ℕ) → p c ≡ q c) → (cs : List ℕ) → keep p cs ≡ keep q cs
-unfolding keep
-keep_same p q e [] = refl
-keep_same p q e (c ∷ cs) = rw (e c, keep_same p q e cs)
-
-map_same : (f g : ℕ → ℕ) → ((v : ℕ) → f v ≡ g v) → (vs : List ℕ) → map f vs ≡ map g vs
-map_same f g e [] = refl
-map_same f g e (v ∷ vs) = rw (e v, map_same f g e vs)
-
 module _ {X : Type 0} (f g : X → ℕ) (r : ℕ) where
   same_class : (xs : List X) (c : ℕ) → of_class class_of moved_of c (zip (map f xs) (map g xs)) ≡ of_class f g c xs
   unfolding of_class
   same_class [] c = refl
   same_class (x ∷ xs) c = rw (same_class xs c)
 
-  same_taken : (xs : List X) (cs : List ℕ) → taken class_of moved_of r (zip (map f xs) (map g xs)) cs ≡ taken f g r xs cs
-  unfolding taken
-  same_taken xs [] = refl
-  same_taken xs (c ∷ cs) = rw (same_class xs c, same_taken xs cs)
-
-  same-order : (xs : List X) (n : ℕ) → order class_of moved_of n (zip (map f xs) (map g xs)) ≡ order f g n xs
-  unfolding order
-  same-order xs n =
-      let one = keep_same _ _ (λ c. ap (λ ms. eqb (length ms) 1) (same_class xs c)) (falling n) in
-      let many = keep_same _ _ (λ c. ap (λ ms. leb 2 (length ms)) (same_class xs c)) (falling n) in
-      cc
-
-  same-displacement : (xs : List X) (v : ℕ) → displacement class_of moved_of r (zip (map f xs) (map g xs)) v ≡ displacement f g r xs v
-  unfolding displacement
-  same-displacement xs v = rw (same_class xs v, same-order xs (2 ^ r), same_taken xs (behind v (order f g (2 ^ r) xs)))
-
   pub same-displacements : (xs : List X) → displacements r (map f xs) (map g xs) ≡ map (displacement f g r xs) (range_with_len 0 (2 ^ r))
   unfolding displacements
-  same-displacements xs = map_same _ _ (same-displacement xs) (range_with_len 0 (2 ^ r))
+  same-displacements xs =
+      ap (λ (h : ℕ → ℕ). map h (range_with_len 0 (2 ^ r)))
+      (λ i v. displacement-equal class_of moved_of f g (zip (map f xs) (map g xs)) xs (same_class xs) r v i)
 
 -- ---- the results of a round
 moved_same : {X : Type 0} (f g : X → ℕ) (h : ℕ → ℕ) (n : ℕ) (ds : List ℕ) → ((v : ℕ) → v < n → get_or ds v 0 ≡ h v) → (xs : List X) → All (λ x. f x < n) xs
@@ -95,18 +58,16 @@ pub takes_seconds : (r : ℕ) (fronts backs list rest : List ℕ) → list ≡ s
 unfolding seconds
 takes_seconds r fronts backs list rest e = ap (take (2 ^ r)) e ∙ take_at (seconds r fronts backs) rest (2 ^ r) (length-map-range_with_len _ 0 (2 ^ r))
 
--- a list that begins with 2 ^ r displacements has as many
-begins_long : (n : ℕ) (f : ℕ → ℕ) (list : List ℕ) → take n list ≡ map f (range_with_len 0 n) → n ≤ length list
-begins_long n f list e = omega (arith, length-take n list, ap length e, length-map-range_with_len f 0 n)
-
 -- ---- both rounds
 pub firsts-long : (r : ℕ) (fronts backs list : List ℕ) → take (2 ^ r) list ≡ firsts r fronts backs → 2 ^ r ≤ length list
 unfolding firsts
-firsts-long r fronts backs list e = begins_long (2 ^ r) _ list e
+firsts-long r fronts backs list e =
+    omega (arith, length-take (2 ^ r) list, ap length e, length-map-range_with_len (first front_of back_of r (zip fronts backs)) 0 (2 ^ r))
 
 pub seconds-long : (r : ℕ) (fronts backs list : List ℕ) → take (2 ^ r) list ≡ seconds r fronts backs → 2 ^ r ≤ length list
 unfolding seconds
-seconds-long r fronts backs list e = begins_long (2 ^ r) _ list e
+seconds-long r fronts backs list e =
+    omega (arith, length-take (2 ^ r) list, ap length e, length-map-range_with_len (second front_of back_of r (zip fronts backs)) 0 (2 ^ r))
 
 pub firsts_are : (r : ℕ) (fronts backs : List ℕ) → displacements r fronts backs ≡ firsts r fronts backs
 unfolding displacements firsts first
@@ -126,12 +87,11 @@ module _ (r : ℕ) (fronts backs : List ℕ) (equal : length backs ≡ length fr
       (λ i h. rw (get_or-zip fronts backs i (0, 0) (omega arith) (omega arith)) (below i (omega arith)))
 
   all_places : Below (2 ^ r) backs → All (λ (x : ℕ × ℕ). first_place front_of back_of r (zip fronts backs) x < 2 ^ r) (zip fronts backs)
-  unfolding first_place result
   all_places below =
       let long = length-zip fronts backs in
       let xs = zip fronts backs in
-      All-weaker (λ (x : ℕ × ℕ). back_of x < 2 ^ r) (λ (x : ℕ × ℕ). bit_xor (back_of x) (displacement front_of back_of r xs (front_of x)) < 2 ^ r)
-      (λ x h. xor_lt r (back_of x) (displacement front_of back_of r xs (front_of x)) h (displacement-within front_of back_of r xs (front_of x)))
+      All-weaker (λ (x : ℕ × ℕ). back_of x < 2 ^ r) (λ (x : ℕ × ℕ). first_place front_of back_of r xs x < 2 ^ r)
+      (λ x h. first_place_lt front_of back_of r xs x h)
       xs
       (All-from_get_or (λ (x : ℕ × ℕ). back_of x < 2 ^ r) xs (0, 0)
       (λ i h. rw (get_or-zip fronts backs i (0, 0) (omega arith) (omega arith)) (below i (omega arith))))
@@ -157,13 +117,31 @@ module _ (r : ℕ) (fronts backs : List ℕ) (equal : length backs ≡ length fr
       ∙ same-displacements (first_place front_of back_of r (zip fronts backs)) front_of r (zip fronts backs)
 
   pub pairs_are : shared_rows (first_places r fronts backs) ≡ pairs_of r fronts backs
-  unfolding first_places pairs_of shared_pairs_of
-  pairs_are = shared-map (first_place front_of back_of r (zip fronts backs)) (zip fronts backs)
+  unfolding first_places pairs_of shared_pairs_of shared_rows
+  pairs_are = shared-map (first_place front_of back_of r (zip fronts backs)) (λ (x : ℕ). x) (zip fronts backs)
 
   pub places_are : (list : List ℕ) → Below (2 ^ r) backs → take (2 ^ r) list ≡ seconds r fronts backs → moved_by list (first_places r fronts backs) fronts ≡ places_of r fronts backs
   unfolding first_places seconds second places_of place
   places_are list below e =
       results_are (first_place front_of back_of r (zip fronts backs)) front_of r (zip fronts backs) list (first_places r fronts backs) fronts refl fronts_are e (all_places below)
+
+-- ---- the first places, as the first move leaves them
+pub first_placed : (r : ℕ) (fronts backs first copy places : List ℕ) → ColumnsFit r fronts backs → take (2 ^ r) first ≡ firsts r fronts backs
+    → copy ≡ fronts → places ≡ moved_by first copy backs → places ≡ first_places r fronts backs
+first_placed r fronts backs first copy places fit begins same moved =
+    moved ∙ ap (λ (xs : List ℕ). moved_by first xs backs) same ∙ first_places_are r fronts backs fit.equal first fit.class_fits begins
+
+-- they fit as classes, with the front halves as the numbers that are moved
+pub places_fit : (r : ℕ) (fronts backs places : List ℕ) → ColumnsFit r fronts backs → places ≡ first_places r fronts backs → ColumnsFit r places fronts
+places_fit r fronts backs places fit here =
+    let long : length places ≡ length fronts = ap length here ∙ length-first_places r fronts backs fit.equal in
+    record {
+      width = fit.width;
+      equal = sym long;
+      few = omega (arith, fit.few);
+      class_fits = subst (λ (xs : List ℕ). Below (2 ^ r) xs) (sym here) (first_places-within r fronts backs fit.equal fit.moved_fits);
+      moved_fits = fit.class_fits;
+    }
 
 -- ---- a round that can be made is made
 pub sure : (b : Bool) (P : Type 0) → MatchBool b P (P → ⊥) → P → b ≡ true

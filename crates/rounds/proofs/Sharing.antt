@@ -1,21 +1,15 @@
 -- Rows with the same number, counted one after the other. Assumes nothing.
-use Rattle.std.proofs.Common.{◌≡◌, ℕ, suc, ◌+◌, ◌*◌, ◌<◌, ◌≤◌, cond, eqb, List, [], ◌∷◌, ◌++◌, map, length, get_or, take, set, replicate, sym, refl, ap, ◌∙◌, ⊎_elim, arith}
-use Rattle.std.proofs.lemmas.List.{take_more, take_all, length-set, length-take, get_or-replicate}
-use Rattle.std.proofs.lemmas.Bool.{cases_eq, ne_eqb, cond_both}
+use Rattle.std.proofs.Common.{◌≡◌, ℕ, suc, ◌+◌, ◌*◌, ◌<◌, ◌≤◌, cond, eqb, List, [], ◌∷◌, ◌++◌, length, get_or, take, set, replicate, refl, ap, ◌∙◌, arith}
+use Rattle.std.proofs.lemmas.List.{take_more, length-set, length-take, get_or-replicate}
+use Rattle.std.proofs.lemmas.Bool.{cond_both}
 use Rattle.rule.specs.Places.{with_key, shared}
+use Rattle.rule.proofs.Pairs.{eqb_sym}
 use Rattle.displace.proofs.Counting.{bumped}
 use Rattle.rounds.specs.Halves.{shared_rows}
 
 -- how many of the rows hold v
 unfoldable pub rows_with : ℕ → List ℕ → ℕ
 rows_with v xs = with_key (λ (x : ℕ). x) v xs
-
-eqb_flips : (a b : ℕ) → eqb a b ≡ eqb b a
-eqb_flips a b =
-    ⊎_elim {C = eqb a b ≡ eqb b a}
-    (λ e. rw e)
-    (λ ne. ne_eqb a b ne ∙ sym (ne_eqb b a (λ e. ne (sym e))))
-    (cases_eq a b)
 
 rows_push : (v : ℕ) (xs : List ℕ) (y : ℕ) → rows_with v (xs ++ y ∷ []) ≡ rows_with v xs + cond (eqb y v) 1 0
 unfolding rows_with with_key
@@ -28,7 +22,7 @@ shared_push [] y = refl
 shared_push (x ∷ xs) y =
     let rest = shared_push xs y in
     let more = rows_push x xs y in
-    let flips = ap (λ b. cond {A = ℕ} b 1 0) (eqb_flips x y) in
+    let flips = ap (λ b. cond {A = ℕ} b 1 0) (eqb_sym x y) in
     omega arith
 
 rows_le : (v : ℕ) (xs : List ℕ) → rows_with v xs ≤ length xs
@@ -71,22 +65,9 @@ counted_more places counters i sum l few h so =
           λ v k.
           let k' : v < length counters = rw length-set at k in
           let here = bumped counters p v k' in
-          let flips = ap (λ b. cond {A = ℕ} b 1 0) (eqb_flips v p) in
+          let flips = ap (λ b. cond {A = ℕ} b 1 0) (eqb_sym v p) in
           let same = so.each v k' in
           rw (next, rows_push v (take i places) p) (omega arith);
       pairs = rw (next, shared_push (take i places) p) (omega (arith, so.pairs, so.each p h));
       small = let c = counter_small places counters i p sum few h so in omega (arith, so.small);
     }
-
-pub counted_all : (places counters : List ℕ) (i sum : ℕ) → length places ≤ i → Counted places i counters sum → sum ≡ shared_rows places
-counted_all places counters i sum h so = so.pairs ∙ ap shared_rows (take_all i places h)
-
--- ---- the same, of members with a key
-pub shared-map : {X : Type 0} (f : X → ℕ) (xs : List X) → shared_rows (map f xs) ≡ shared f xs
-unfolding shared_rows shared with_key
-shared-map f [] = refl
-shared-map {X} f (x ∷ xs) = rw (keyed (f x) xs, shared-map f xs)
-  where
-    keyed : (v : ℕ) (ys : List X) → with_key (λ (y : ℕ). y) v (map f ys) ≡ with_key f v ys
-    keyed v [] = refl
-    keyed v (y ∷ ys) = rw (keyed v ys)

@@ -1,5 +1,5 @@
 -- Both rounds on two columns of halves: row i is a member, with the front half and the back half that stand there. Assumes nothing.
-use Rattle.std.specs.Prelude.{◌≡◌, ℕ, ◌^◌, ◌≤◌, List, map, length, Some, None, Option, bit_xor, slice_index}
+use Rattle.std.specs.Prelude.{ℕ, ◌^◌, ◌≤◌, List, map, length, bit_xor, slice_index}
 use Rattle.std.specs.List.{zip, range_with_len}
 use Rattle.rule.specs.Places.{shared, first, first_place, second, place, shared_pairs_of}
 use Rattle.displace.specs.Columns.{Ready as RoundReady}
@@ -35,11 +35,6 @@ pub record Ready (r : ℕ) (fronts backs : List ℕ) (first_length second_length
   pub round : RoundReady r fronts backs first_length work_length
   pub second_long : 2 ^ r ≤ second_length
   pub places_long : length fronts ≤ places_length
-
--- the answer is none exactly if P does not hold, and else n
-abbrev pub Answers : Option ℕ → Type 0 → ℕ → Type 0
-Answers None P n = P → ⊥
-Answers (Some m) P n = P × (m ≡ n)
 
 -- the results of one round: each moved number displaced by what the list ds has for its class
 unfoldable pub moved_by : List ℕ → List ℕ → List ℕ → List ℕ

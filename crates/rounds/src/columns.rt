@@ -9,9 +9,9 @@ pub(crate) fn move_all(moved: &[u32], displacements: &[u16], classes: &mut [u32]
     requires within { Below (length displacements.now) classes.old }
     ensures { classes.new ≡ moved_by displacements.now classes.old moved.now }
 {
-    for (i, m) in moved.iter().enumerate() {
-        let class = classes[i] as usize;
-        classes[i] = *m ^ u32::from(displacements[class]);
+    // Counted, not zipped: after a zip with `iter_mut` nothing is known of the elements, and the result stays open.
+    for (i, c) in classes.iter_mut().enumerate() {
+        *c = moved[i] ^ u32::from(displacements[*c as usize]);
     }
 }
 

@@ -5,7 +5,7 @@ use Rattle.std.proofs.lemmas.Bool.Decides.{nat_tests}
 use Rattle.fault.specs.declared.Fault.{Fault}
 use Rattle.lists.specs.Size.{and_then, size_of, checked_size_of}
 use Rattle.lists.specs.Place.{first_place_of, place_within, place_in, place_of}
-use Rattle.slots.specs.Calls.{slot_for}
+use Rattle.slots.specs.Calls.{slot_for, look_up, look_up_at, replacing, replace_at, removing, remove_at, inserting, insert_at}
 use Rattle.slots.specs.Local.{Long, Agree, Local}
 use Rattle.slots.specs.declared.Slot.{Slot}
 
@@ -50,5 +50,17 @@ module _ {C V : Type 0} (front_of back_of : C → ℕ) (r : ℕ) (code : C) (fir
       ∙ then_same (place_of r first second (length slots) front back) _ _ (λ p e. ap (λ s. Ok (p, s)) (rw (place_is r (length slots) front back first second p e) at agree.at_place))
 
   -- and so is what a call does with them
-  pub then_local : {X : Type 0} (step : ℕ × Option (Slot C V) → Result X Fault) → Local front_of back_of r code first second slots (λ first' second' slots'. and_then (slot_for front_of back_of r code first' second' slots') step)
+  then_local : {X : Type 0} (step : ℕ × Option (Slot C V) → Result X Fault) → Local front_of back_of r code first second slots (λ first' second' slots'. and_then (slot_for front_of back_of r code first' second' slots') step)
   then_local step = record { same = λ long first' second' slots' long' agree. ap (λ q. and_then q step) (slot_same long first' second' slots' long' agree) }
+
+  pub lookup_local : Local front_of back_of r code first second slots (look_up front_of back_of r code)
+  lookup_local = then_local (look_up_at front_of back_of code)
+
+  pub replace_local : (entry : V) → Local front_of back_of r code first second slots (replacing front_of back_of r code entry)
+  replace_local entry = then_local (replace_at front_of back_of code entry)
+
+  pub remove_local : Local front_of back_of r code first second slots (removing front_of back_of r code)
+  remove_local = then_local (remove_at front_of back_of code)
+
+  pub insert_local : (entry : V) → Local front_of back_of r code first second slots (inserting front_of back_of r code entry)
+  insert_local entry = then_local (insert_at front_of back_of code entry)

@@ -7,7 +7,8 @@ use crate::Slot;
 use codes::Code;
 use fault::Fault;
 
-// The slots of an index, for as long as they are lent.
+// The slots of an index, for as long as they are lent. Its methods hand the list to the functions, whose promises they
+// repeat: a form that the project asks for.
 #[derive(Drop)]
 pub struct Slots<'a, C, V> {
     slots: &'a mut [Slot<C, V>],

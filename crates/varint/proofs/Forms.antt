@@ -1,10 +1,10 @@
 -- Laws of the written form. Assumes nothing.
-use Rattle.std.proofs.Common.{◌≡◌, ℕ, zero, suc, ◌+◌, ◌-◌, ◌*◌, ◌/◌, ◌%◌, ◌^◌, ◌<◌, ◌≤◌, Bool, true, false, List, [], ◌∷◌, ◌++◌, length, take, sym, refl, ap, ◌∙◌, subst, ⊎_elim, pow-suc, add-one, arith}
+use Rattle.std.proofs.Common.{◌≡◌, ℕ, zero, suc, ◌+◌, ◌-◌, ◌*◌, ◌/◌, ◌%◌, ◌^◌, ◌<◌, ◌≤◌, Bool, true, false, List, [], ◌∷◌, ◌++◌, length, take, sym, refl, ap, ◌∙◌, ⊎_elim, pow-suc, add-one, arith}
 use native.Mathlib.Nat.{one-le-pow}
 use Rattle.std.proofs.lemmas.Bool.{cases_lt, lt-ltb, le-ltb, le-leb, lt-leb, ne_eqb, false≢true}
-use Rattle.varint.specs.Width.{top_group, limit}
-use Rattle.varint.specs.Steps.{Last, More}
-use Rattle.varint.specs.Groups.{grouped, value, Reading, ended, malformed, number, before, lastly, reading}
+use Rattle.varint.specs.Width.{more_groups, top_group, limit, numbers}
+use Rattle.varint.specs.Calls.{Fewest}
+use Rattle.varint.specs.Groups.{grouped, groups, value, Reading, ended, malformed, number, before, lastly, reading}
 
 -- a number of one group, and one of more
 pub grouped-last : (left n : ℕ) → n < 128 → grouped left n ≡ n ∷ []
@@ -22,21 +22,40 @@ shorter left n h =
     let e : n < 128 * (16 * 128 ^ left) = omega (arith, pow-suc 128 left) in
     omega arith
 
-pub last_step : (left rest : ℕ) → rest < 128 → Last left rest
-last_step left rest h = let e = grouped-last left rest h in record { form = e; count = ap length e }
+-- room for one group more changes no number that does without it
+grouped-suc : (left n : ℕ) → n < limit left → grouped (suc left) n ≡ grouped left n
+grouped-suc zero n h = let low : n < 128 = omega arith in grouped-last (suc zero) n low ∙ sym (grouped-last zero n low)
+grouped-suc (suc left) n h =
+    ⊎_elim
+    (λ low. grouped-last (suc (suc left)) n low ∙ sym (grouped-last (suc left) n low))
+    (λ high. grouped-more (suc left) n high ∙ ap (λ l. (128 + n % 128) ∷ l) (grouped-suc left (n / 128) (shorter left n h)) ∙ sym (grouped-more left n high))
+    (cases_lt n 128)
 
-pub more_step : (left rest : ℕ) → 128 ≤ rest → rest < limit left → More left rest
-more_step zero rest high h = absurd (omega arith)
-more_step (suc left) rest high h =
-    let byte : 128 + rest % 128 ≡ rest % 128 + 128 = omega arith in
-    let one : suc left - 1 ≡ left = omega arith in
-    let e = grouped-more left rest high ∙ (λ i. byte i ∷ grouped (sym one i) (rest / 128)) in
-    record {
-      some = omega arith;
-      shorter = subst (λ k. rest / 128 < limit k) (sym one) (shorter left rest h);
-      form = e;
-      count = ap length e ∙ sym (add-one _);
-    }
+-- the groups of a number, by its first
+pub groups_last : (n : ℕ) → n < 128 → groups n ≡ n ∷ []
+groups_last n h = grouped-last more_groups n h
+
+pub groups_more : (n : ℕ) → 128 ≤ n → n < numbers → groups n ≡ (n % 128 + 128) ∷ groups (n / 128)
+groups_more n high fits =
+    let byte : 128 + n % 128 ≡ n % 128 + 128 = omega arith in
+    let left = more_groups - 1 in
+    grouped-more left n high ∙ (λ i. byte i ∷ sym (grouped-suc left (n / 128) (shorter left n fits)) i)
+
+-- the first group, and those that may follow it
+grouped-zero : (n : ℕ) → length (grouped zero n) ≤ 1
+unfolding grouped
+grouped-zero n = omega arith
+
+length-grouped : (left n : ℕ) → length (grouped left n) ≤ left + 1
+length-grouped zero n = grouped-zero n
+length-grouped (suc left) n =
+    ⊎_elim
+    (λ low. rw (grouped-last (suc left) n low) (omega arith))
+    (λ high. rw (grouped-more left n high) (omega (arith, length-grouped left (n / 128))))
+    (cases_lt n 128)
+
+pub length_groups : (n : ℕ) → length (groups n) ≤ more_groups + 1
+length_groups n = length-grouped more_groups n
 
 -- the written form stands for its number
 pub value-grouped : (left n : ℕ) → n < limit left → value (grouped left n) ≡ n
@@ -60,6 +79,9 @@ grouped-fewest (suc left) n (b ∷ c ∷ cs) some e =
     (λ low. rw (lt-ltb n 128 low) (omega arith))
     (λ high. rw (le-ltb n 128 high) (omega (arith, grouped-fewest left (n / 128) (c ∷ cs) (omega arith) tail)))
     (cases_lt n 128)
+
+pub fewest : (n : ℕ) → n < numbers → Fewest n
+fewest n h = record { same = value-grouped more_groups n h; fewest = grouped-fewest more_groups n }
 
 -- one step of a reading, by the group that it meets
 pub reading-end : (left : ℕ) (later : Bool) → reading left later [] ≡ ended

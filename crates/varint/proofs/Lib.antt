@@ -1,4 +1,4 @@
 pub mod Forms
 pub mod Writes
 pub mod Reading
-pub mod Turns
+pub mod Steps

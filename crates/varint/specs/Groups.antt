@@ -1,5 +1,7 @@
 -- A number as bytes: groups of seven bits, lowest first, the top bit set in all bytes but the last. Assumes nothing.
 use Rattle.std.specs.Prelude.{ℕ, zero, suc, ◌+◌, ◌*◌, ◌/◌, ◌%◌, Bool, true, cond, ◌&&◌, List, [], ◌∷◌, ◌==◌, nat_le, nat_lt}
+use Rattle.std.specs.Option.{option_map_or}
+use Rattle.varint.specs.declared.Groups.{Groups}
 use Rattle.varint.specs.Width.{more_groups, top_group}
 
 -- n in groups, of which at most left follow the first
@@ -10,6 +12,10 @@ grouped (suc left) n = cond (nat_lt n 128) (n ∷ []) ((128 + n % 128) ∷ group
 -- the number as it is written
 abbrev pub groups : ℕ → List ℕ
 groups n = grouped more_groups n
+
+-- what an iterator over the groups still gives
+abbrev pub groups_left : Groups → List ℕ
+groups_left g = option_map_or groups g.rest []
 
 -- the number that bytes stand for, in the shortest form or not
 unfoldable pub value : List ℕ → ℕ

@@ -1,4 +1,3 @@
 pub mod Width
 pub mod Groups
 pub mod Calls
-pub mod Steps

@@ -2,8 +2,10 @@ use Rattle.std.proofs.Common.{◌≡◌, ◌-◌, ◌≤◌, length}
 use Rattle.numbers.specs.Scan.{scanned, first_refusal}
 use Rattle.numbers.proofs.list.Given as goal
 
-abbrev pub invariant-loop-at : goal.invariant-loop-at
-invariant-loop-at g l = (l.count ≤ l.at) × (l.at ≤ length l.bytes) × (scanned (length l.bytes - l.count) l.bytes l.at ≡ first_refusal l.bytes)
-
-abbrev pub decreases-loop-at : goal.decreases-loop-at
-decreases-loop-at g l = length l.bytes - l.at
+abbrev pub invariant-loop-number : goal.invariant-loop-number
+invariant-loop-number g l = record {
+  bytes : l.number-iterator.bytes.now ≡ l.bytes;
+  few : l.count ≤ l.number-iterator.at;
+  within : l.number-iterator.at ≤ length l.bytes;
+  scan : scanned (length l.bytes - l.count) l.bytes l.number-iterator.at ≡ first_refusal l.bytes;
+}

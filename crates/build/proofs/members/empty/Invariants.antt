@@ -3,4 +3,4 @@ use Rattle.build.specs.Filled.{emptied}
 use Rattle.build.proofs.members.empty.Given as goal
 
 abbrev pub invariant-loop-slot : goal.invariant-loop-slot
-invariant-loop-slot g l = l.slots ≡ emptied l.slot-index l.initial.slots
+invariant-loop-slot g l = l.slot-items ≡ emptied l.slot-index l.initial.slot-items

@@ -1,5 +1,5 @@
 use Rattle.std.proofs.Common.{ℕ, ◌+◌, ◌<◌, length, get_or, set, sym, subst, arith, rules}
-use Rattle.rounds.proofs.Sharing.{Counted, counted_none, counter_small, counted_more, counted_all}
+use Rattle.rounds.proofs.Sharing.{Counted, counted_none, counter_small, counted_more}
 use Rattle.rounds.proofs.columns.count_shared.Goals as goal
 
 pub loop-x-init : goal.loop-x-init
@@ -18,6 +18,3 @@ loop-x-preserved c =
     subst (λ (n : ℕ). Counted c.args.rows.now (c.loop-x.x-index + 1) (set c.loop-x.counters p (get_or c.loop-x.counters p 0 + 1)) (c.loop-x.pairs + n))
     (sym c.from-pairs.ensures)
     (counted_more c.args.rows.now c.loop-x.counters c.loop-x.x-index c.loop-x.pairs (omega arith) c.requires.few h c.loop-x.invariant)
-
-pub returns : goal.returns
-returns c = counted_all c.args.rows.now c.loop-x.counters c.loop-x.x-index c.loop-x.pairs (omega arith) c.loop-x.invariant

@@ -1,6 +1,0 @@
-use Rattle.varint.specs.Steps.{turn}
-use Rattle.varint.proofs.Turns.{goes}
-use Rattle.varint.proofs.laws.group.Goals as goal
-
-pub returns : goal.returns
-returns c = λ h w. goes (turn c.args.bytes.now c.args.at c.args.next c.args.left c.args.later c.args.sum c.args.scale) h w
