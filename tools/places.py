@@ -20,8 +20,8 @@ LINES = {
     "1d numbers for kinds and for nothing": r"const KIND|fn kind|as u32 \+ 1;|links\[row - 1\]|self\.at > ",
     "1e answers taken apart by hand": r"(Some|Ok|Err)\([^)]*\)+ => (return )?(Ok|Err|Answer|refused|writeln)|None => (Err|\{\})"
                                       r"|=> return refused|Err\(fault\) => (return|Err|\{$)",
-    "3a loops with an index or a cursor": r"^ *(while |for [a-z_]+ in [^{]*\.\.[^.]|for \([a-z]+, [^)]*\) in .*enumerate)",
-    "3b other loops": r"^ *for [a-z]+ in [^{]*[a-z)] \{",
+    "3a loops with an index or a cursor": r"^ *(while |for [a-z_]+ in [^{]*\.\.|for .* in .*enumerate)",
+    "3b other loops": r"^ *for ((?!\.\.|enumerate).)*\{$",
     "4 conversions, equality and printing": r"\bfn (eq|part|number|from_number|kind|fold|only_row|row|show|read)\b"
                                             r".*(self|number|front|row|word|other|round)",
     "7 steps chosen by a predicate or a word": r'fn is_(many|lone)|b?"[a-z]+" =>|match (verb|list|held)',
@@ -79,7 +79,9 @@ for path in sources:
         signatures.append((f"{crate}:{name}", frozenset(params)))
         for kind, body in found:
             if kind == "requires":
-                for part in body.split(" × "):
+                # The same fact is spelled with the struct that a method has.
+                plain = re.sub(r"\b(self|chains)\.(now|old)\.(columns\.)?", "", body)
+                for part in plain.split(" × "):
                     clauses[part.strip("() ")].append(f"{crate}:{name}")
 
 often = [(len(where), body, where) for body, where in clauses.items() if len(where) >= 3]

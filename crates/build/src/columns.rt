@@ -1,7 +1,7 @@
 // The checks and both rounds on the columns of halves.
-ghost use Rattle.std.specs.Prelude.{◌≡◌, ◌+◌, ◌*◌, ◌^◌, ◌<◌, ◌≤◌, true, length};
-ghost use Rattle.displace.specs.Columns.{ColumnsFit, written};
-ghost use Rattle.rounds.specs.Halves.{firsts, pairs_of, places_of, seconds};
+ghost use Rattle.std.specs.Prelude.{◌≡◌, ◌+◌, ◌^◌, ◌<◌, ◌≤◌, true, length};
+ghost use Rattle.displace.specs.Columns.{written};
+ghost use Rattle.rounds.specs.Halves.{Ready, firsts, pairs_of, places_of, seconds};
 ghost use Rattle.build.specs.Checked.{columns_checked};
 
 use checks::{large_half, repeated};
@@ -27,7 +27,7 @@ pub(crate) fn check(
     repeated(fronts, backs, heads, links)
 }
 
-// Sets both lists, in their first 2^r, and the place of each member, and answers the shared pairs.
+// Sets both lists, in their first 2^r, and the place of each member, and answers the shared pairs, on lists that fit.
 pub(crate) fn set_lists(
     r: u32,
     fronts: &[u32],
@@ -37,11 +37,8 @@ pub(crate) fn set_lists(
     places: &mut [u32],
     work: &mut [u32],
 ) -> u64
-    requires fit { ColumnsFit r fronts.now backs.now }
-    requires first { 2 ^ r ≤ length first.old }
-    requires second { 2 ^ r ≤ length second.old }
+    requires ready { Ready r fronts.now backs.now (length first.old) (length second.old) (length places.old) (length work.old) }
     requires places { length places.old ≡ length fronts.now }
-    requires work { 3 * 2 ^ r + 2 * length fronts.now ≤ length work.old }
     ensures pairs { result ≡ pairs_of r fronts.now backs.now }
     ensures first { first.new ≡ written true (2 ^ r) (firsts r fronts.now backs.now) first.old }
     ensures second { second.new ≡ written true (2 ^ r) (seconds r fronts.now backs.now) second.old }

@@ -19,7 +19,7 @@ use parts::build_parts;
 use slots::Slot;
 
 // A member of an index: a code, and the entry that it leads to.
-#[derive(Clone, Copy, Debug)]
+#[derive(Clone, Copy, PartialEq, Eq, Debug)]
 pub struct Member<C, V> {
     pub code: C,
     pub entry: V,

@@ -45,12 +45,10 @@ fn run<W: Write>(heap: Global, script: &[u8], out: &mut W) -> io::Result<()> {
     Ok(())
 }
 
-// Carries out one line.
+// Carries out one line. The two first words are told from the others by a `match`: a table of closures is no plainer for two.
 fn command<W: Write>(heap: Global, held: &mut Held, line: &[u8], out: &mut W) -> Result<(), Stop> {
     let line = line.strip_suffix(b"\n").unwrap_or(line);
-    let Ok(line) = str::from_utf8(line) else {
-        return Err(Stop::Bad);
-    };
+    let line = str::from_utf8(line).map_err(|_| Stop::Bad)?;
     let mut words = Words::new(line);
     match words.word()? {
         "patterns" => {

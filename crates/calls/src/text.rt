@@ -8,7 +8,7 @@ use std::str::FromStr;
 pub trait Scripted: Code + fmt::Display {
     type Entry: FiledEntry;
 
-    // The code that a word writes. It is no `FromStr`, since a script has neither a + nor the round -0.
+    // The code that a word writes. It is no `FromStr`: that trait and the codes are of other crates, and this form is the script's.
     fn read(word: &str) -> Option<Self>;
 
     // A slot of a new index.

@@ -57,9 +57,9 @@ impl<'a> Words<'a> {
 
     // Refuses a line with words left.
     pub fn done(mut self) -> Result<(), Stop> {
-        match self.0.next() {
-            None => Ok(()),
-            Some(_) => Err(Stop::Bad),
+        if self.0.next().is_some() {
+            return Err(Stop::Bad);
         }
+        Ok(())
     }
 }

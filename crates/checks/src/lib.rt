@@ -33,8 +33,8 @@ pub fn large_half(n: usize, fronts: &[u32], backs: &[u32]) -> Result<(), Fault>
     Ok(())
 }
 
-// Refuses the lowest position whose code came before, if the columns are equally long and the lists lent suffice; else
-// nothing. What heads and links hold after is not told.
+// Refuses the lowest position whose code came before, if the columns are equally long and the lists lent suffice. Where they
+// do not, nothing is searched and nothing refused. What heads and links hold after is not told.
 pub fn repeated(
     fronts: &[u32],
     backs: &[u32],

@@ -35,6 +35,7 @@ impl Codes<'_> {
     // Refuses the lowest position whose code came before. Each position is compared with the earlier ones of its bucket
     // alone, which are chained: heads have one more than the last position of each bucket, links one more than the position
     // before. The chains are words of the lent work list, since the library takes no memory: 0 stands for no position.
+    // Loops over positions that a label leaves with the answer: a rule of the project.
     pub(crate) fn search(&self, heads: &mut [u32], links: &mut [u32]) -> Result<(), Fault>
         requires few { length self.now.fronts.now < 2 ^ 32 }
         requires heads { 0 < length heads.old }

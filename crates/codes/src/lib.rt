@@ -34,7 +34,7 @@ pub trait Code: Copy {
 }
 
 // A code that is kept in a file: its kind is the number that stands for its type there, and it is made again from its
-// halves. The kind is no enum, since any crate may add one.
+// halves. The kind is no enum, since any crate may add one. Making is no `TryFrom`, as for an entry below.
 pub trait FiledCode: Code {
     const KIND: u32;
 

@@ -7,7 +7,8 @@ use crate::chains::Chains;
 use crate::counters::Counters;
 
 // Sets the displacement of every class whose number of members passes the test.
-// Its parts stay parameters: in one struct behind `&mut`, that the chains stay as they are would have to be said in turn.
+// Its parts stay parameters, and the length of the group stands at each function: in one struct behind `&mut`, that the chains
+// stay as they are would have to be said in turn.
 // Not inlined: the walk over all classes then keeps what it counts in registers.
 #[inline(never)]
 fn pass<F: Fn(usize) -> bool>(

@@ -12,7 +12,7 @@ fn are_below(limit: usize, numbers: &[u32]) -> bool
     numbers.iter().all(|x| (*x as usize) < limit)
 }
 
-// The class and the moved number of each row.
+// The class and the moved number of each row. Two columns and no list of pairs: lent work memory holds numbers alone.
 #[derive(Clone, Copy)]
 pub(crate) struct Columns<'a> {
     pub(crate) r: u32,

@@ -62,6 +62,7 @@ impl<'a> Counters<'a> {
         ensures same { self.new.r ≡ self.old.r }
         ensures counted { (ys : List ℕ) → Counts self.old.r ys self.old.counts.now → Counts self.old.r (y ∷ ys) self.new.counts.now }
     {
+        // Lent once for all bits, which shows in the time of a build.
         let counts = &mut *self.counts;
         for w in 0..=self.r {
             counts[index(w, y)] += 1;

@@ -196,7 +196,8 @@ impl Layer {
     }
 }
 
-// Number, part and spot tell a refusal whole. Not derived: a derive has no clause, and one that skips a field would pass.
+// Number, part and spot tell a refusal whole. Not derived: a derive has no clauses that say so (one that skips a field would
+// pass the check), and with it the equality of two options of refusals met the search's limit.
 impl PartialEq for Fault {
     ghost eq = { has_same_numbers };
 

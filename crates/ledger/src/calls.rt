@@ -1,5 +1,6 @@
 // Calls carried out one after another.
-// r, both lists and the slots stay parameters: no proof covers a `&mut` list in a struct's field that `lookup` takes as `&`.
+// r, both lists and the slots stay parameters: as a method of a struct of them `carry_out` is not covered by the borrow checker,
+// and takes six clauses for two. `Slots` has the slots alone.
 ghost use Rattle.std.specs.Prelude.{◌≡◌, ◌≤◌, ◌++◌, length, drop};
 ghost use Rattle.ledger.specs.Run.{answer_to, answers_to, slots_after_call, slots_after_calls};
 

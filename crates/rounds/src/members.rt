@@ -6,7 +6,7 @@ ghost use Rattle.rounds.specs.Halves.{firsts, first_places, pairs_of, places_of,
 use crate::columns::{count_shared, move_all};
 use displace::round;
 
-// The halves of each member.
+// The halves of each member. Two columns and no list of pairs: lent work memory holds numbers alone.
 #[derive(Clone, Copy)]
 pub(crate) struct Members<'a> {
     pub(crate) r: u32,
@@ -15,7 +15,8 @@ pub(crate) struct Members<'a> {
     ghost fit: { ColumnsFit r fronts.now backs.now },
 }
 
-// What the places hold stands at each step: in a struct around them their ghost name would stand there, which is no plainer.
+// Each step is a method, so that it is proved by itself. What the places hold and how long the lists are stands at each of
+// them: in a struct around these lists their ghost names would stand there, which is no plainer.
 impl Members<'_> {
     // The first place of each member.
     fn place_first(&self, first: &[u16], places: &mut [u32])

@@ -16,7 +16,7 @@ pub use lent::Slots;
 
 // One slot: whether it is full, and the code and entry that it holds or last held. Only the mark says whether it is empty.
 // No Option: an emptied slot keeps its code and entry, which is a rule of the project.
-#[derive(Clone, Copy, Debug)]
+#[derive(Clone, Copy, PartialEq, Eq, Debug)]
 pub struct Slot<C, V> {
     pub full: bool,
     pub code: C,

@@ -92,7 +92,8 @@ pub fn read(bytes: &[u8], at: usize) -> Result<(Number, usize), Fault>
     read_groups(bytes, at)
 }
 
-// Reads group after group, lowest first.
+// Reads group after group, lowest first. A function of its own: what `read` promises follows from this clause alone, and not
+// from each way out of the loop.
 #[tactic(auto, using(crate::proofs::Steps::group_steps))]
 fn read_groups(bytes: &[u8], at: usize) -> Result<(Number, usize), Fault>
     ensures { result ≡ read_at bytes.now at }

@@ -6,7 +6,14 @@ pub set_lists-pairs-requires : goal.set_lists-pairs-requires
 set_lists-pairs-requires g c =
     let cross =
     crossed g.C.Code.front_of g.C.Code.back_of c.args.r c.args.size c.args.members.now c.write_halves.new.fronts c.write_halves.new.backs c.requires.accepted.size c.write_halves.ensures.fronts c.write_halves.ensures.backs c.requires.accepted.high c.requires.few c.in_ok-check.ensures in
-    record { fit = cross.fit; first = omega arith; second = omega arith; places = search rules; work = search rules }
+    record {
+      ready = record {
+        round = record { fit = cross.fit; out_long = omega arith; work_long = search rules };
+        second_long = omega arith;
+        places_long = omega arith;
+      };
+      places = search rules;
+    }
 
 pub fill-requires : goal.fill-requires
 fill-requires g c =
