@@ -4,12 +4,6 @@ use Rattle.std.proofs.lemmas.Slice.Zip.{zip_turn, zip_end}
 use Rattle.build.proofs.Filling.{filled_more, filled_all}
 use Rattle.build.proofs.members.fill.Goals as goal
 
-pub bounds-slots-place : goal.bounds-slots-place
-bounds-slots-place g c =
-    let at =
-    zip_turn c.args.members.now c.args.places.now _ c.into_iter-member-iterator.result c.loop-member.member-iterator c.next.new.self _ (cc) (cc) c.loop-member.yielded_by _ c.in-Some.is c.next.ensures.steps in
-    omega (arith, at.3 0, c.requires.within (length c.loop-member.yielded) at.1)
-
 pub offset_bounds-slots-place : goal.offset_bounds-slots-place
 offset_bounds-slots-place g c =
     let at =
