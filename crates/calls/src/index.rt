@@ -45,6 +45,15 @@ impl<C: Scripted> Lists<C> {
             work: vec![in heap; 0; work]?,
         })
     }
+
+    // The lists of displacements, and the slots to be written.
+    fn lend(&mut self) -> (&[u16], &[u16], &mut [Slot<C, C::Entry>]) {
+        (
+            self.first.as_slice(),
+            self.second.as_slice(),
+            self.slots.as_mut_slice(),
+        )
+    }
 }
 
 impl<C: Scripted> Index<C> {
@@ -77,6 +86,10 @@ impl<C: Scripted> Index<C> {
                 words.done()?;
                 self.build(out)
             }
+            "lookup" => self.lookup(words, out),
+            "replace" => self.replace(words, out),
+            "remove" => self.remove(words, out),
+            "insert" => self.insert(words, out),
             "list" => {
                 words.done()?;
                 self.list(out)
@@ -122,6 +135,51 @@ impl<C: Scripted> Index<C> {
             self.lists.work.as_mut_slice(),
         )?;
         writeln!(out, "built {members} {shared}")?;
+        Ok(())
+    }
+
+    // Looks a code up.
+    fn lookup<W: Write>(&self, mut words: Words, out: &mut W) -> Result<(), Stop> {
+        let code: C = words.code()?;
+        words.done()?;
+        let lists = &self.lists;
+        let (first, second) = (lists.first.as_slice(), lists.second.as_slice());
+        match slots::lookup(self.r, first, second, lists.slots.as_slice(), code)? {
+            Some((place, entry)) => writeln!(out, "found {place} {}", entry.number())?,
+            None => writeln!(out, "absent")?,
+        }
+        Ok(())
+    }
+
+    // Gives a code another entry.
+    fn replace<W: Write>(&mut self, mut words: Words, out: &mut W) -> Result<(), Stop> {
+        let code: C = words.code()?;
+        let entry = words.entry()?;
+        words.done()?;
+        let (first, second, slots) = self.lists.lend();
+        let old = slots::replace(self.r, first, second, slots, code, entry)?;
+        writeln!(out, "replaced {}", old.number())?;
+        Ok(())
+    }
+
+    // Takes a code out.
+    fn remove<W: Write>(&mut self, mut words: Words, out: &mut W) -> Result<(), Stop> {
+        let code: C = words.code()?;
+        words.done()?;
+        let (first, second, slots) = self.lists.lend();
+        let entry = slots::remove(self.r, first, second, slots, code)?;
+        writeln!(out, "removed {}", entry.number())?;
+        Ok(())
+    }
+
+    // Puts a code with its entry into the empty slot at its place.
+    fn insert<W: Write>(&mut self, mut words: Words, out: &mut W) -> Result<(), Stop> {
+        let code: C = words.code()?;
+        let entry = words.entry()?;
+        words.done()?;
+        let (first, second, slots) = self.lists.lend();
+        let place = slots::insert(self.r, first, second, slots, code, entry)?;
+        writeln!(out, "inserted {place}")?;
         Ok(())
     }
 
