@@ -103,20 +103,20 @@ module _ {C V : Type 0} (front back : C → ℕ) (r : ℕ) (ms : List (Member C 
         let here : Below (2 ^ r) (places_of r (column front ms) (column back ms)) = subst (λ (xs : List ℕ). Below (2 ^ r) xs) (sym places_are) below in
         omega (arith, here i l)
 
-  answers_are : (n : ℕ) → pairs_answer front back r ms n ≡ and_then (columns_checked n (column front ms) (column back ms)) (λ _. Ok (pairs_of r (column front ms) (column back ms)))
+  pub answers_are : (n : ℕ) → pairs_answer front back r ms n ≡ and_then (columns_checked n (column front ms) (column back ms)) (λ _. Ok (pairs_of r (column front ms) (column back ms)))
   unfolding pairs_answer
   answers_are n =
       ap₂ (λ (a : Result (Unit {0}) Fault) (pairs : ℕ). and_then a (λ _. Ok pairs)) (sym (checks_are n)) (sym pairs_are)
 
-  first_list_lem : (old : List ℕ) → firsts r (column front ms) (column back ms) ++ drop (2 ^ r) old ≡ first_list front back r ms old
+  pub first_list_lem : (old : List ℕ) → firsts r (column front ms) (column back ms) ++ drop (2 ^ r) old ≡ first_list front back r ms old
   unfolding first_list
   first_list_lem old = ap (λ (xs : List ℕ). xs ++ drop (2 ^ r) old) firsts_are
 
-  second_list_lem : (old : List ℕ) → seconds r (column front ms) (column back ms) ++ drop (2 ^ r) old ≡ second_list front back r ms old
+  pub second_list_lem : (old : List ℕ) → seconds r (column front ms) (column back ms) ++ drop (2 ^ r) old ≡ second_list front back r ms old
   unfolding second_list
   second_list_lem old = ap (λ (xs : List ℕ). xs ++ drop (2 ^ r) old) seconds_are
 
-  slot_list_lem : (slots : List (Slot C V)) → filled (places_of r (column front ms) (column back ms)) ms (emptied (2 ^ r) slots) ≡ slot_list front back r ms slots
+  pub slot_list_lem : (slots : List (Slot C V)) → filled (places_of r (column front ms) (column back ms)) ms (emptied (2 ^ r) slots) ≡ slot_list front back r ms slots
   unfolding slot_list refilled
   slot_list_lem slots = ap (λ places. filled places ms (emptied (2 ^ r) slots)) places_are
 

@@ -69,34 +69,39 @@ impl<C: Scripted> Index<C> {
     }
 
     // Carries out one command. No table of closures: the commands differ in what they take and in whether they print.
-    pub fn command<W: Write>(&mut self, verb: &str, words: Words, out: &mut W) -> Result<(), Stop> {
+    pub fn command<W: Write>(
+        &mut self,
+        verb: &[u8],
+        words: Words,
+        out: &mut W,
+    ) -> Result<(), Stop> {
         match verb {
-            "lengths" => self.lengths(words),
-            "r" => {
+            b"lengths" => self.lengths(words),
+            b"r" => {
                 self.r = words.last()?;
                 Ok(())
             }
-            "member" => self.member(words),
-            "clear" => {
+            b"member" => self.member(words),
+            b"clear" => {
                 words.done()?;
                 self.members.clear();
                 Ok(())
             }
-            "build" => {
+            b"build" => {
                 words.done()?;
                 self.build(out)
             }
-            "lookup" => self.lookup(words, out),
-            "replace" => self.replace(words, out),
-            "remove" => self.remove(words, out),
-            "insert" => self.insert(words, out),
-            "list" => {
+            b"lookup" => self.lookup(words, out),
+            b"replace" => self.replace(words, out),
+            b"remove" => self.remove(words, out),
+            b"insert" => self.insert(words, out),
+            b"list" => {
                 words.done()?;
                 self.list(out)
             }
-            "poke" => self.poke(words),
-            "peek" => self.peek(words, out),
-            "work" => {
+            b"poke" => self.poke(words),
+            b"peek" => self.peek(words, out),
+            b"work" => {
                 words.done()?;
                 self.work(out)
             }
@@ -106,12 +111,18 @@ impl<C: Scripted> Index<C> {
 
     // Makes the lists anew with these lengths.
     fn lengths(&mut self, mut words: Words) -> Result<(), Stop> {
-        let first = length(&mut words)?;
-        let second = length(&mut words)?;
-        let slots = length(&mut words)?;
-        let work = length(&mut words)?;
+        let first = words.at_most(LONGEST)?;
+        let second = words.at_most(LONGEST)?;
+        let slots = words.at_most(LONGEST)?;
+        let work = words.at_most(LONGEST)?;
         words.done()?;
-        self.lists = Lists::new(self.heap, first, second, slots, work)?;
+        // One list after another, so that no more than one of them stands twice.
+        let heap = self.heap;
+        let lists = &mut self.lists;
+        lists.first = vec![in heap; 0; first]?;
+        lists.second = vec![in heap; 0; second]?;
+        lists.slots = vec![in heap; C::blank(); slots]?;
+        lists.work = vec![in heap; 0; work]?;
         Ok(())
     }
 
@@ -186,16 +197,19 @@ impl<C: Scripted> Index<C> {
     // Prints every full slot of the index.
     fn list<W: Write>(&self, out: &mut W) -> Result<(), Stop> {
         let slots = self.places()?;
-        let full = slots.iter().filter(|slot| slot.full).count();
+        // A sum, and no `filter` with `count`, which takes half as long again for each slot or word.
+        let full: usize = slots.iter().map(|slot| usize::from(slot.full)).sum();
         writeln!(out, "{} {full}", self.r)?;
-        for (place, slot) in slots.iter().enumerate().filter(|(_, slot)| slot.full) {
-            writeln!(
-                out,
-                "{place} {} {} {}",
-                slot.code.front(),
-                slot.code.back(),
-                slot.entry.number()
-            )?;
+        for (place, slot) in slots.iter().enumerate() {
+            if slot.full {
+                writeln!(
+                    out,
+                    "{place} {} {} {}",
+                    slot.code.front(),
+                    slot.code.back(),
+                    slot.entry.number()
+                )?;
+            }
         }
         Ok(())
     }
@@ -212,12 +226,12 @@ impl<C: Scripted> Index<C> {
     // Writes an element of a list.
     fn poke(&mut self, mut words: Words) -> Result<(), Stop> {
         let list = words.word()?;
-        let at = words.number()?;
+        let at = words.at_most(LONGEST)?;
         match list {
-            "first" => set(&mut self.lists.first, at, words.last()?),
-            "second" => set(&mut self.lists.second, at, words.last()?),
-            "work" => set(&mut self.lists.work, at, words.last()?),
-            "slot" => {
+            b"first" => set(&mut self.lists.first, at, words.last()?),
+            b"second" => set(&mut self.lists.second, at, words.last()?),
+            b"work" => set(&mut self.lists.work, at, words.last()?),
+            b"slot" => {
                 let full = words.mark()?;
                 let code = words.code()?;
                 let entry = words.entry()?;
@@ -231,11 +245,12 @@ impl<C: Scripted> Index<C> {
     // Prints an element of a list.
     fn peek<W: Write>(&self, mut words: Words, out: &mut W) -> Result<(), Stop> {
         let list = words.word()?;
-        let at: usize = words.last()?;
+        let at = words.at_most(LONGEST)?;
+        words.done()?;
         match list {
-            "first" => writeln!(out, "{}", self.lists.first.get(at).ok_or(Stop::Bad)?)?,
-            "second" => writeln!(out, "{}", self.lists.second.get(at).ok_or(Stop::Bad)?)?,
-            "slot" => {
+            b"first" => writeln!(out, "{}", self.lists.first.get(at).ok_or(Stop::Bad)?)?,
+            b"second" => writeln!(out, "{}", self.lists.second.get(at).ok_or(Stop::Bad)?)?,
+            b"slot" => {
                 let slot = self.lists.slots.get(at).ok_or(Stop::Bad)?;
                 let mark = if slot.full { "full" } else { "empty" };
                 writeln!(out, "{mark} {} {}", slot.code, slot.entry.number())?;
@@ -245,23 +260,15 @@ impl<C: Scripted> Index<C> {
         Ok(())
     }
 
-    // Prints whether the work list is all zeros.
+    // Prints whether the work list is all zeros; a sum, as above.
     fn work<W: Write>(&self, out: &mut W) -> Result<(), Stop> {
-        match self.lists.work.iter().filter(|x| **x != 0).count() {
+        let dirty: usize = self.lists.work.iter().map(|x| usize::from(*x != 0)).sum();
+        match dirty {
             0 => writeln!(out, "zeros")?,
-            dirty => writeln!(out, "dirty {dirty}")?,
+            _ => writeln!(out, "dirty {dirty}")?,
         }
         Ok(())
     }
-}
-
-// The next word as the length of a list.
-fn length(words: &mut Words) -> Result<usize, Stop> {
-    let n = words.number()?;
-    if n > LONGEST {
-        return Err(Stop::Bad);
-    }
-    Ok(n)
 }
 
 // Writes the element at an index of a list.

@@ -8,6 +8,7 @@ use std::alloc::Global;
 use std::io;
 use std::io::{BufWriter, Read, Write};
 use stop::Stop;
+use text::Lines;
 use words::Words;
 
 mod index;
@@ -34,7 +35,7 @@ fn main(rt: HostRuntime) -> io::Result<()> {
 // Carries out every line in turn.
 fn run<W: Write>(heap: Global, script: &[u8], out: &mut W) -> io::Result<()> {
     let mut held = Held::Patterns(Index::new(heap, 4)?);
-    for line in script.split_inclusive(|b| *b == b'\n') {
+    for line in (Lines { rest: script }) {
         match command(heap, &mut held, line, out) {
             Ok(()) => {}
             Err(Stop::Bad) => writeln!(out, "bad")?,
@@ -47,15 +48,13 @@ fn run<W: Write>(heap: Global, script: &[u8], out: &mut W) -> io::Result<()> {
 
 // Carries out one line. The two first words are told from the others by a `match`: a table of closures is no plainer for two.
 fn command<W: Write>(heap: Global, held: &mut Held, line: &[u8], out: &mut W) -> Result<(), Stop> {
-    let line = line.strip_suffix(b"\n").unwrap_or(line);
-    let line = str::from_utf8(line).map_err(|_| Stop::Bad)?;
     let mut words = Words::new(line);
     match words.word()? {
-        "patterns" => {
+        b"patterns" => {
             *held = Held::Patterns(Index::new(heap, words.last()?)?);
             Ok(())
         }
-        "chart" => {
+        b"chart" => {
             *held = Held::Chart(Index::new(heap, words.last()?)?);
             Ok(())
         }

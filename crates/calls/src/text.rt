@@ -1,15 +1,16 @@
-// How numbers and codes stand in a script, and what a new index of each kind of code holds.
+// How lines, numbers and codes stand in a script, and what a new index of each kind of code holds. A script is read as bytes:
+// its words are digits and a few marks, and a line that is no text is bad as any other.
 use codes::{ChartEntry, Code, FiledEntry, Pattern, Rods, Row, Shelf, Stroke};
+use memchr::memchr;
 use slots::Slot;
 use std::fmt;
-use std::str::FromStr;
 
 // A kind of code with a written form, and with entries that go with its codes.
 pub trait Scripted: Code + fmt::Display {
     type Entry: FiledEntry;
 
     // The code that a word writes. It is no `FromStr`: that trait and the codes are of other crates, and this form is the script's.
-    fn read(word: &str) -> Option<Self>;
+    fn read(word: &[u8]) -> Option<Self>;
 
     // A slot of a new index.
     fn blank() -> Slot<Self, Self::Entry>;
@@ -19,8 +20,8 @@ pub trait Scripted: Code + fmt::Display {
 impl Scripted for Pattern {
     type Entry = Shelf;
 
-    fn read(word: &str) -> Option<Pattern> {
-        let (front, back) = word.split_once('.')?;
+    fn read(word: &[u8]) -> Option<Pattern> {
+        let (front, back) = split_once(word, b'.')?;
         Some(Pattern::new(number(front)?, number(back)?))
     }
 
@@ -37,8 +38,8 @@ impl Scripted for Pattern {
 impl Scripted for Row {
     type Entry = ChartEntry;
 
-    fn read(word: &str) -> Option<Row> {
-        let (round, stake) = word.split_once('.')?;
+    fn read(word: &[u8]) -> Option<Row> {
+        let (round, stake) = split_once(word, b'.')?;
         Some(Row {
             round: read_round(round)?,
             stake: number(stake)?,
@@ -58,21 +59,72 @@ impl Scripted for Row {
 }
 
 // A round in decimal digits, behind a - if it is below 0.
-fn read_round(word: &str) -> Option<i16> {
-    let round = number(word)?;
-    if round == 0 && word.starts_with('-') {
+fn read_round(word: &[u8]) -> Option<i16> {
+    let Some(digits) = word.strip_prefix(b"-") else {
+        return number(word);
+    };
+    let below: u16 = number(digits)?;
+    if below == 0 {
         return None;
     }
-    Some(round)
+    i16::try_from(-i32::from(below)).ok()
 }
 
-// The number that decimal digits write, if the type has it. There is no + before them, which `parse` would take.
-pub fn number<T: FromStr>(word: &str) -> Option<T>
+// The number that decimal digits write, if the type has it. Not by `parse`: that wants text, and shows in the time of a script.
+pub fn number<T: TryFrom<u64>>(digits: &[u8]) -> Option<T>
 where
-    T::Err: Drop,
+    T::Error: Drop,
 {
-    if word.starts_with('+') {
+    if digits.is_empty() {
         return None;
     }
-    word.parse().ok()
+    let mut n: u64 = 0;
+    for digit in digits {
+        if !digit.is_ascii_digit() {
+            return None;
+        }
+        n = n.checked_mul(10)?.checked_add(u64::from(*digit - b'0'))?;
+    }
+    T::try_from(n).ok()
+}
+
+// What stands before the first such byte, and what stands behind it.
+fn split_once(bytes: &[u8], byte: u8) -> Option<(&[u8], &[u8])> {
+    let at = bytes.iter().position(|b| *b == byte)?;
+    Some((&bytes[..at], &bytes[at + 1..]))
+}
+
+// The lines of a script, each without its end. Not `split` of a slice: it calls a closure for every byte, which shows in the
+// time of a script.
+#[derive(Drop)]
+pub struct Lines<'a> {
+    pub rest: &'a [u8],
+}
+
+impl<'a> Iterator for Lines<'a> {
+    ghost use Rattle.std.specs.Prelude.{◌<◌, length, IfSome};
+    ghost use Rattle.std.specs.Iterator.{at_most};
+
+    type Item = &'a [u8];
+
+    ghost next_gives = { λ s r t. IfSome r (λ _. length t.rest.now < length s.rest.now) };
+
+    ghost remaining = { λ s. at_most (length s.rest.now) };
+
+    fn next(&mut self) -> Option<&'a [u8]> {
+        let rest = self.rest;
+        if rest.is_empty() {
+            return None;
+        }
+        match memchr(b'\n', rest) {
+            Some(end) => {
+                self.rest = &rest[end + 1..];
+                Some(&rest[..end])
+            }
+            None => {
+                self.rest = &[];
+                Some(rest)
+            }
+        }
+    }
 }

@@ -1,35 +1,54 @@
 // The words of a line, parted by single spaces, and what they write.
+ghost use Rattle.std.specs.Prelude.{◌≤◌, IfOk};
+
 use crate::stop::Stop;
 use crate::text::{Scripted, number};
 use codes::FiledEntry;
-use std::str::{FromStr, Split};
 
+// What is left of a line; none once its last word is taken.
 #[derive(Drop)]
-pub struct Words<'a>(Split<'a, char>);
+pub struct Words<'a>(Option<&'a [u8]>);
 
 impl<'a> Words<'a> {
-    pub fn new(line: &'a str) -> Words<'a> {
-        Words(line.split(' '))
+    pub fn new(line: &'a [u8]) -> Words<'a> {
+        Words(Some(line))
     }
 
     // The next word.
-    pub fn word(&mut self) -> Result<&'a str, Stop> {
-        self.0.next().ok_or(Stop::Bad)
+    pub fn word(&mut self) -> Result<&'a [u8], Stop> {
+        let rest = self.0.ok_or(Stop::Bad)?;
+        let (word, rest) = match rest.iter().position(|b| *b == b' ') {
+            Some(end) => (&rest[..end], Some(&rest[end + 1..])),
+            None => (rest, None),
+        };
+        self.0 = rest;
+        Ok(word)
     }
 
     // The next word as a number.
-    pub fn number<T: FromStr>(&mut self) -> Result<T, Stop>
+    pub fn number<T: TryFrom<u64>>(&mut self) -> Result<T, Stop>
     where
-        T::Err: Drop,
+        T::Error: Drop,
     {
         number(self.word()?).ok_or(Stop::Bad)
     }
 
+    // The next word as a number that is at most so large.
+    pub fn at_most(&mut self, most: usize) -> Result<usize, Stop>
+        ensures { IfOk result (λ n. n ≤ most) }
+    {
+        let n = self.number()?;
+        if n > most {
+            return Err(Stop::Bad);
+        }
+        Ok(n)
+    }
+
     // The last word as a number.
-    pub fn last<T: FromStr>(mut self) -> Result<T, Stop>
+    pub fn last<T: TryFrom<u64>>(mut self) -> Result<T, Stop>
     where
         T: Drop,
-        T::Err: Drop,
+        T::Error: Drop,
     {
         let n = self.number()?;
         self.done()?;
@@ -49,15 +68,15 @@ impl<'a> Words<'a> {
     // The next word as the mark of a slot, `full` or `empty`.
     pub fn mark(&mut self) -> Result<bool, Stop> {
         match self.word()? {
-            "full" => Ok(true),
-            "empty" => Ok(false),
+            b"full" => Ok(true),
+            b"empty" => Ok(false),
             _ => Err(Stop::Bad),
         }
     }
 
     // Refuses a line with words left.
-    pub fn done(mut self) -> Result<(), Stop> {
-        if self.0.next().is_some() {
+    pub fn done(self) -> Result<(), Stop> {
+        if self.0.is_some() {
             return Err(Stop::Bad);
         }
         Ok(())

@@ -38,7 +38,7 @@ pub large_start : (n : ℕ) (fronts backs : List ℕ) → large_from n fronts ba
 unfolding large_from large_in
 large_start n fronts backs = refl
 
-pub large_end : (n : ℕ) (fronts backs : List ℕ) (i : ℕ) → i ≡ min (length fronts) (length backs) → large_from n fronts backs i ≡ None
+pub large_end : (n : ℕ) (fronts backs : List ℕ) (i : ℕ) → min (length fronts) (length backs) ≤ i → large_from n fronts backs i ≡ None
 unfolding large_from large_half_of
 large_end n fronts backs i e =
     let long = length-zip fronts backs in

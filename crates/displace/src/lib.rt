@@ -42,12 +42,16 @@ pub fn round(
     ensures answer { Exactly (is_ok result) (Ready r class.now moved.now (length out.old) (length work.old)) }
     ensures after { out.new ≡ written (is_ok result) (2 ^ r) (displacements r class.now moved.now) out.old }
 {
-    let columns = Columns::new(r, class, moved)?;
-    let size = power(r);
     let n = class.len();
+    if r > 16 || n > power(r) {
+        return Err(Unfit);
+    }
+    let size = power(r);
+    // Before the columns are read: lists that are too short are refused in the same time, however long the columns are.
     if out.len() < size || work.len() < 3 * size + 2 * n {
         return Err(Unfit);
     }
+    let columns = Columns::new(r, class, moved)?;
     let (counters, rest) = work.split_at_mut(2 * size);
     let (heads, rest) = rest.split_at_mut(size);
     let (links, rest) = rest.split_at_mut(n);

@@ -26,4 +26,4 @@ loop-position-preserved c =
 pub returns : goal.returns
 returns c =
     let end = row_end c.args.fronts.now c.args.backs.now _ c.into_iter-position-iterator.result c.loop-position.position-iterator c.next.new.self _ c.loop-position.yielded_by c.in-None.is c.next.ensures.steps (cc) (cc) (cc) in
-    ap refused (sym (large_end c.args.n c.args.fronts.now c.args.backs.now _ end) ∙ c.loop-position.invariant)
+    ap refused (sym (large_end c.args.n c.args.fronts.now c.args.backs.now _ (omega (arith, end))) ∙ c.loop-position.invariant)
