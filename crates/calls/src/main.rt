@@ -8,7 +8,6 @@ use std::alloc::Global;
 use std::io;
 use std::io::{BufWriter, Read, Write};
 use stop::Stop;
-use text::Lines;
 use words::Words;
 
 mod index;
@@ -35,7 +34,12 @@ fn main(rt: HostRuntime) -> io::Result<()> {
 // Carries out every line in turn.
 fn run<W: Write>(heap: Global, script: &[u8], out: &mut W) -> io::Result<()> {
     let mut held = Held::Patterns(Index::new(heap, 4)?);
-    for line in (Lines { rest: script }) {
+    if script.is_empty() {
+        return Ok(());
+    }
+    // The last line may stand without its end.
+    let lines = script.strip_suffix(b"\n").unwrap_or(script);
+    for line in lines.split(|b| *b == b'\n') {
         match command(heap, &mut held, line, out) {
             Ok(()) => {}
             Err(Stop::Bad) => writeln!(out, "bad")?,

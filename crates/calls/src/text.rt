@@ -1,7 +1,6 @@
-// How lines, numbers and codes stand in a script, and what a new index of each kind of code holds. A script is read as bytes:
-// its words are digits and a few marks, and a line that is no text is bad as any other.
+// How numbers and codes stand in a script, and what a new index of each kind of code holds. A script is read as bytes: its
+// words are digits and a few marks, and a line that is no text is bad as any other.
 use codes::{ChartEntry, Code, FiledEntry, Pattern, Rods, Row, Shelf, Stroke};
-use memchr::memchr;
 use slots::Slot;
 use std::fmt;
 
@@ -70,7 +69,7 @@ fn read_round(word: &[u8]) -> Option<i16> {
     i16::try_from(-i32::from(below)).ok()
 }
 
-// The number that decimal digits write, if the type has it. Not by `parse`: that wants text, and shows in the time of a script.
+// The number that decimal digits write, if the type has it. Not by `parse`, which wants text: that shows in a script's time.
 pub fn number<T: TryFrom<u64>>(digits: &[u8]) -> Option<T>
 where
     T::Error: Drop,
@@ -90,41 +89,6 @@ where
 
 // What stands before the first such byte, and what stands behind it.
 fn split_once(bytes: &[u8], byte: u8) -> Option<(&[u8], &[u8])> {
-    let at = bytes.iter().position(|b| *b == byte)?;
-    Some((&bytes[..at], &bytes[at + 1..]))
-}
-
-// The lines of a script, each without its end. Not `split` of a slice: it calls a closure for every byte, which shows in the
-// time of a script.
-#[derive(Drop)]
-pub struct Lines<'a> {
-    pub rest: &'a [u8],
-}
-
-impl<'a> Iterator for Lines<'a> {
-    ghost use Rattle.std.specs.Prelude.{◌<◌, length, IfSome};
-    ghost use Rattle.std.specs.Iterator.{at_most};
-
-    type Item = &'a [u8];
-
-    ghost next_gives = { λ s r t. IfSome r (λ _. length t.rest.now < length s.rest.now) };
-
-    ghost remaining = { λ s. at_most (length s.rest.now) };
-
-    fn next(&mut self) -> Option<&'a [u8]> {
-        let rest = self.rest;
-        if rest.is_empty() {
-            return None;
-        }
-        match memchr(b'\n', rest) {
-            Some(end) => {
-                self.rest = &rest[end + 1..];
-                Some(&rest[..end])
-            }
-            None => {
-                self.rest = &[];
-                Some(rest)
-            }
-        }
-    }
+    let mut parts = bytes.splitn(2, |b| *b == byte);
+    Some((parts.next()?, parts.next()?))
 }

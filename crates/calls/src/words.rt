@@ -17,11 +17,9 @@ impl<'a> Words<'a> {
     // The next word.
     pub fn word(&mut self) -> Result<&'a [u8], Stop> {
         let rest = self.0.ok_or(Stop::Bad)?;
-        let (word, rest) = match rest.iter().position(|b| *b == b' ') {
-            Some(end) => (&rest[..end], Some(&rest[end + 1..])),
-            None => (rest, None),
-        };
-        self.0 = rest;
+        let mut parts = rest.splitn(2, |b| *b == b' ');
+        let word = parts.next().ok_or(Stop::Bad)?;
+        self.0 = parts.next();
         Ok(word)
     }
 
